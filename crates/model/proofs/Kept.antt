@@ -1,0 +1,69 @@
+-- What a change of a state has to show besides well-formedness: the invariant of every shard, that nothing goes back, and the issues.
+-- Assumes nothing.
+use Prim.Native.Nat.{ℕ, suc, _+_, _≤_, _<_}
+use native.Mathlib.Nat.{lt-of-lt-of-le}
+use mathlib.Core.Path.{_≡_, refl, sym, ap, subst, _∙_}
+use mathlib.Core.Bool.{true}
+use mathlib.Core.List.{List}
+use lib.Dec.{ltb}
+use borrow.Author.Tests.{ltb-true}
+use Rattle.model.specs.Entries.{issue, firstIssue}
+use Rattle.model.specs.Layout.{sequencer, installed, members, orderer}
+use Rattle.model.specs.WellFormed.{wellFormed, isSequencer}
+use Rattle.model.specs.StableHistory.{stableHistory}
+use Rattle.model.specs.Prefixes.{Begins}
+use Rattle.model.specs.OneList.{shards}
+use Rattle.model.proofs.Tests.{both}
+use Rattle.model.proofs.Histories.{Wider, offered-wider}
+use Rattle.model.proofs.Views.{View, Inv}
+use Rattle.model.proofs.StateViews.{view, stable-grows}
+use Rattle.model.proofs.Issues.{first-stays, issue-not-zero}
+use Rattle.model.proofs.Forward.{Forward, forward-shards}
+use Rattle.model.proofs.WellFormed.{WellFormed, well-formed}
+use Rattle.model.proofs.Safe.{Safe, Issued}
+
+pub record Kept (w : List ℕ) (offers : ℕ → List ℕ) (w′ : List ℕ) (offers′ : ℕ → List ℕ) : Type 0 where
+  pub forward : Forward w w′
+  pub inv : (z : ℕ) → z < shards w → Inv (view w′ z) (offers′ z)
+  pub issues : (z j : ℕ) → z < shards w → suc j < installed w′ z → Issued w′ z j
+
+-- a safe state is well-formed
+pub formed : {w : List ℕ} {offers : ℕ → List ℕ} → Safe w offers → WellFormed (shards w) w
+unfolding shards
+formed {w} x = well-formed w (shards w) refl (x .several) (x .formed)
+
+-- a sequencer is a shard
+pub sequencer-below : {w : List ℕ} {offers : ℕ → List ℕ} → Safe w offers → (z : ℕ) → z < shards w → sequencer w z < shards w
+unfolding isSequencer
+sequencer-below {w} x z h =
+    ltb-true (sequencer w z) (shards w) (both (ltb (sequencer w z) (shards w)) _ .0 (formed x .head z h .sequenced) .0)
+
+-- a view that shows the same replicas, with a wider offer
+pub inv-same : {v v′ : View} {o o′ : List ℕ} → Inv v o → ((a b : ℕ) → v′ a b ≡ v a b) → Wider o o′ → Inv v′ o′
+inv-same {v} {v′} {o} {o′} i e d =
+    subst (λ (u : View). Inv u o′) (λ t a b. sym (e a b) t)
+    (record {
+      fits = i .fits;
+      blank = i .blank;
+      reach = i .reach;
+      rooted = i .rooted;
+      stemmed = i .stemmed;
+      once = i .once;
+      offered = λ a b. offered-wider d (i .offered a b);
+    })
+
+-- a configuration that was issued stays so
+pub issued-stays : {w w′ : List ℕ} {offers offers′ : ℕ → List ℕ} → Safe w offers → Forward w w′
+    → ((z : ℕ) → z < shards w → Inv (view w′ z) (offers′ z)) → (z j : ℕ) → z < shards w → suc j < installed w z → Issued w′ z j
+issued-stays {w} {w′} {offers} {offers′} x f i z j h l =
+    record {
+      first =
+          rw (f .sequencers z h, f .orderers z (suc j) h l, f .memberships z (suc j) h l)
+          (first-stays z (j + 2) grown (x .issues z j h l .first) (issue-not-zero (j + 2) z (orderer w z (suc j)) (members w z (suc j))));
+    }
+  where
+    y : sequencer w z < shards w
+    y = sequencer-below x z h
+
+    grown : Begins (stableHistory w (sequencer w z)) (stableHistory w′ (sequencer w z))
+    grown = stable-grows w w′ (sequencer w z) (i (sequencer w z) y) (λ a b. f .prefixes (sequencer w z) a b y)

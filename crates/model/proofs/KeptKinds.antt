@@ -1,0 +1,237 @@
+-- Add, adopt, learn, wedge and inherit on a safe state: each is a move of its shard's view.
+-- Assumes nothing.
+use Prim.Native.Nat.{ℕ, suc, _+_, _-_, _≤_, _<_}
+use native.Mathlib.Nat.{lt-of-lt-of-le, le-of-lt}
+use native.Mathlib.Omega.{arith}
+use mathlib.Core.Path.{_≡_, refl, sym, ap, subst, _∙_}
+use mathlib.Core.Bool.{Bool, true, false, not, _&&_}
+use mathlib.Core.List.{List, [], _∷_}
+use lib.Dec.{leb, ltb, eqb}
+use borrow.Author.Tests.{leb-true, ltb-true, eqb-true, eqb-false, not-true, eq-eqb}
+use lib.Arith.{lt-of-le-ne}
+use lib.ListN.{length, take, getD, length-append}
+use lib.Seq.{length-take-le, ext-getD, getD-take}
+use Rattle.model.specs.Tests.{contains, allBelow}
+use Rattle.model.specs.Members.{size, hasMember, replicaNumber}
+use Rattle.model.specs.Replicas.{Replica, readReplica, unused, isActive, isPending, isImmutable, added, adopted, learned, wedged, inherited}
+use Rattle.model.specs.Layout.{place, part, isInstalled, members, orderer, putReplica, replicaAt}
+use Rattle.model.specs.Configuration.{configuration, replicaPlace, replicaOf}
+use Rattle.model.specs.Add.{ordererPlace, ordererReplica, addChecks, addEffect}
+use Rattle.model.specs.Adopt.{adoptChecks, adoptEffect}
+use Rattle.model.specs.Learn.{alike, allAlike, learnChecks, learnEffect}
+use Rattle.model.specs.Wedge.{wedgeChecks, wedgeEffect}
+use Rattle.model.specs.Inherit.{source, isSource, inheritChecks, inheritEffect}
+use Rattle.model.specs.WellFormed.{isPart}
+use Rattle.model.specs.Prefixes.{Begins}
+use Rattle.model.specs.OneList.{shards}
+use Rattle.model.proofs.Tests.{both, all-below}
+use Rattle.model.proofs.Members.{number-below}
+use Rattle.model.proofs.Checks.{AllPass}
+use Rattle.model.proofs.Parts.{short}
+use Rattle.model.proofs.Places.{replica-place}
+use Rattle.model.proofs.Histories.{Wider, wider-refl}
+use Rattle.model.proofs.Views.{Inv}
+use Rattle.model.proofs.Moves.{Move}
+use Rattle.model.proofs.KindMoves.{add-move, adopt-move, learn-move, wedge-move, inherit-move}
+use Rattle.model.proofs.StateViews.{view, view-in, InView, inside, outside, in-view}
+use Rattle.model.proofs.WellFormed.{WellFormed}
+use Rattle.model.proofs.WellFormedParts.{part-vacant}
+use Rattle.model.proofs.WellFormedMembers.{orderer-is-member, member-proper}
+use Rattle.model.proofs.SeatedReplica.{number-small, member-view}
+use Rattle.model.proofs.Safe.{Safe}
+use Rattle.model.proofs.Kept.{Kept, formed}
+use Rattle.model.proofs.KeptPut.{kept-put}
+
+-- modes by their tests
+active-mode : (r : Replica) → isActive r ≡ true → r .mode ≡ 2
+unfolding isActive
+active-mode r e = eqb-true (r .mode) 2 e
+
+pending-mode : (r : Replica) → isPending r ≡ true → r .mode ≡ 1
+unfolding isPending
+pending-mode r e = eqb-true (r .mode) 1 e
+
+immutable-mode : (r : Replica) → isImmutable r ≡ true → r .mode ≡ 3
+unfolding isImmutable
+immutable-mode r e = eqb-true (r .mode) 3 e
+
+-- words that are no member's have no mode
+vacant-mode : (Z j : ℕ) (w : List ℕ) (at : ℕ) → isPart Z j false (part w at) ≡ true → replicaAt w at .mode ≡ 0
+unfolding replicaAt
+vacant-mode Z j w at e = part-vacant Z j (part w at) e .mode-none
+
+alike-long : (n : ℕ) (f g : List ℕ) → alike n f g ≡ true → n ≤ length g
+unfolding alike
+alike-long n f g e = leb-true n (length g) (both (leb n (length g)) (allBelow n (λ p. eqb (getD g p 0) (getD f p 0))) .0 e .0)
+
+-- a history that is alike in n entries begins with those n
+alike-begins : (n : ℕ) (f g : List ℕ) → n ≤ length f → alike n f g ≡ true → (n ≤ length g) × Begins (take n f) g
+unfolding alike
+alike-begins n f g h e = (long, record { starts = ap (λ (k : ℕ). take k g) (length-take-le n f h) ∙ same })
+  where
+    tests : (leb n (length g) ≡ true) × (allBelow n (λ p. eqb (getD g p 0) (getD f p 0)) ≡ true)
+    tests = both (leb n (length g)) (allBelow n (λ p. eqb (getD g p 0) (getD f p 0))) .0 e
+
+    long : n ≤ length g
+    long = leb-true n (length g) (tests .0)
+
+    same : take n g ≡ take n f
+    same =
+        ext-getD 0 (take n g) (take n f) (length-take-le n g long ∙ sym (length-take-le n f h))
+        (λ i l.
+        let q : i < n = rw (length-take-le n g long) at l in
+        getD-take n g i 0 q
+        ∙ eqb-true (getD g i 0) (getD f i 0) (all-below n (λ p. eqb (getD g p 0) (getD f p 0)) (tests .1) i q)
+        ∙ sym (getD-take n f i 0 q))
+
+added-short : (e : ℕ) (r : Replica) → length (r .history) < 56 → length (added e r .history) ≤ 56
+unfolding added
+added-short e r h = omega (arith, length-append (r .history) (e ∷ []))
+
+module _ {w : List ℕ} {offers : ℕ → List ℕ} (x : Safe w offers) {z j : ℕ} (hz : z < shards w) (hj : j < 8) where
+  -- the replica of a member h: its number, and that the view shows it
+  number : ℕ → ℕ
+  number h = replicaNumber (members w z j) h
+
+  -- a replica of the view is short
+  view-short : (a k : ℕ) → a < 8 → k < 4 → length (view w z a k .history) ≤ 56
+  view-short a k ha hk = rw (view-in w z ha hk) (short w (place z a k))
+
+  -- what replaces the replica of a member h: a move of the view
+  at-member : {offers′ : ℕ → List ℕ} (h : ℕ) → hasMember (members w z j) h ≡ true → (r : Replica) → length (r .history) ≤ 56
+      → ((a : ℕ) → Wider (offers a) (offers′ a)) → Move (view w z) (offers′ z) j (number h) r
+      → Kept w offers (putReplica w (replicaPlace (configuration w z j) h) r) offers′
+  unfolding number
+  at-member h e r few wide m =
+      rw (replica-place w z j h) (kept-put x hz hj (number-small (formed x) hz hj h e) r few wide m)
+
+  shown : (h : ℕ) → hasMember (members w z j) h ≡ true → replicaOf w (configuration w z j) h ≡ view w z j (number h)
+  unfolding number
+  shown h e = member-view (formed x) hz hj h e
+
+  pub kept-wedge : (h : ℕ) → AllPass (wedgeChecks w z j h) → Kept w offers (wedgeEffect w z j h) offers
+  unfolding wedgeChecks wedgeEffect wedged number
+  kept-wedge h p =
+      let member : hasMember (members w z j) h ≡ true = search in
+      let active : isActive (replicaOf w (configuration w z j) h) ≡ true = search in
+      rw (shown h member)
+      (at-member h member (wedged (view w z j (number h))) (view-short j (number h) hj (number-small (formed x) hz hj h member))
+      (λ a. wider-refl)
+      (wedge-move (x .inv z hz) j (number h) (active-mode _ (rw (shown h member) at active))))
+
+  -- a replica with a mode is a member's
+  in-use : (k : ℕ) → 1 ≤ view w z j k .mode → (k < size (members w z j)) × (k < 4)
+  unfolding unused
+  in-use k l = go (in-view w z j k)
+    where
+      test : (b : Bool) → ltb k (size (members w z j)) ≡ b → k < 4 → view w z j k ≡ replicaAt w (place z j k)
+          → isPart (shards w) j b (part w (place z j k)) ≡ true → (k < size (members w z j)) × (k < 4)
+      test true e hk q p = (ltb-true k (size (members w z j)) e, hk)
+      test false e hk q p = absurd (omega (arith, ap (λ (r : Replica). r .mode) q, vacant-mode (shards w) j w (place z j k) p))
+
+      go : InView w z j k → (k < size (members w z j)) × (k < 4)
+      go (inside a b e) = test (ltb k (size (members w z j))) refl b e (formed x .parts z j k hz hj b)
+      go (outside n e) = absurd (omega (arith, ap (λ (r : Replica). r .mode) (e w)))
+
+  -- a member's replica that is not pending has a history
+  past-pending : (h : ℕ) → hasMember (members w z j) h ≡ true → isPending (replicaOf w (configuration w z j) h) ≡ false
+      → 2 ≤ replicaOf w (configuration w z j) h .mode
+  unfolding isPending
+  past-pending h e q =
+      lt-of-le-ne (member-proper (formed x) hz hj h e .mode-least)
+      (λ d. eqb-false (replicaOf w (configuration w z j) h .mode) 1 q (sym d))
+
+  -- all histories of the configuration begin with the first n entries of one of them
+  all-begin : (n k : ℕ) → k < size (members w z j) → k < 4 → allAlike w z j n (view w z j k .history) ≡ true
+      → (l : ℕ) → l < size (members w z j) → l < 4
+      → (n ≤ length (view w z j l .history)) × Begins (take n (view w z j k .history)) (view w z j l .history)
+  unfolding allAlike
+  all-begin n k hk k4 e l hl l4 = alike-begins n (view w z j k .history) (view w z j l .history) own (test l hl l4)
+    where
+      test : (l : ℕ) → l < size (members w z j) → l < 4 → alike n (view w z j k .history) (view w z j l .history) ≡ true
+      test l hl l4 =
+          rw (view-in w z hj l4)
+          (all-below (size (members w z j)) (λ k′. alike n (view w z j k .history) (replicaAt w (place z j k′) .history)) e l hl)
+
+      own : n ≤ length (view w z j k .history)
+      own = alike-long n (view w z j k .history) (view w z j k .history) (test k hk k4)
+
+  pub kept-add : {offers′ : ℕ → List ℕ} (e : ℕ) → AllPass (addChecks w z j e) → ((a : ℕ) → Wider (offers a) (offers′ a))
+      → contains e (offers′ z) ≡ true → Kept w offers (addEffect w z j e) offers′
+  unfolding addChecks addEffect ordererPlace ordererReplica configuration number
+  kept-add {offers′} e p wide o =
+      let there : isInstalled w z j ≡ true = search in
+      let member : hasMember (members w z j) h ≡ true = orderer-is-member (formed x) hz hj there in
+      let active : isActive (replicaOf w (configuration w z j) h) ≡ true = search in
+      let new : not (contains e (replicaOf w (configuration w z j) h .history)) ≡ true = search in
+      let room : ltb (length (replicaOf w (configuration w z j) h .history)) 56 ≡ true = search in
+      rw (shown h member)
+      (at-member h member (added e (view w z j (number h)))
+      (added-short e (view w z j (number h)) (ltb-true _ _ (rw (shown h member) at room)))
+      wide
+      (add-move (x .inv z hz) j (number h) e (active-mode _ (rw (shown h member) at active))
+      (not-true _ (rw (shown h member) at new))
+      (wide z)
+      o))
+    where
+      h : ℕ
+      h = orderer w z j
+
+  pub kept-adopt : (h : ℕ) → AllPass (adoptChecks w z j h) → Kept w offers (adoptEffect w z j h) offers
+  unfolding adoptChecks adoptEffect ordererReplica configuration adopted number
+  kept-adopt h p =
+      let there : isInstalled w z j ≡ true = search in
+      let member : hasMember (members w z j) h ≡ true = search in
+      let active : isActive (replicaOf w (configuration w z j) h) ≡ true = search in
+      let waits : not (isPending (replicaOf w (configuration w z j) o)) ≡ true = search in
+      let led : hasMember (members w z j) o ≡ true = orderer-is-member (formed x) hz hj there in
+      rw (shown h member, shown o led)
+      (at-member h member (adopted (view w z j (number o)) (view w z j (number h)))
+      (view-short j (number o) hj (number-small (formed x) hz hj o led))
+      (λ a. wider-refl)
+      (adopt-move (x .inv z hz) j (number h) (number o) (active-mode _ (rw (shown h member) at active))
+      (rw (shown o led) at (past-pending o led (not-true _ waits)))))
+    where
+      o : ℕ
+      o = orderer w z j
+
+  pub kept-learn : (h n : ℕ) → AllPass (learnChecks w z j h n) → Kept w offers (learnEffect w z j h n) offers
+  unfolding learnChecks learnEffect learned number
+  kept-learn h n p =
+      let member : hasMember (members w z j) h ≡ true = search in
+      let active : isActive (replicaOf w (configuration w z j) h) ≡ true = search in
+      let more : ltb (replicaOf w (configuration w z j) h .stable) n ≡ true = search in
+      let same : allAlike w z j n (replicaOf w (configuration w z j) h .history) ≡ true = search in
+      let all = all-begin n (number h) (number-below (members w z j) h member) (number-small (formed x) hz hj h member) (rw (shown h member) at same) in
+      let grows = ltb-true _ _ (rw (shown h member) at more) in
+      rw (shown h member)
+      (at-member h member (learned n (view w z j (number h))) (view-short j (number h) hj (number-small (formed x) hz hj h member))
+      (λ a. wider-refl)
+      (learn-move (x .inv z hz) j (number h) n (active-mode _ (rw (shown h member) at active)) grows
+      (all (number h) (number-below (members w z j) h member) (number-small (formed x) hz hj h member) .0)
+      (λ l q. let u = in-use l (omega (arith, q)) in all l (u .0) (u .1) .1)
+      (λ l q.
+      let u = in-use l (omega (arith, q)) in
+      let e = ap length (x .inv z hz .blank j l (omega (arith, q))) in
+      omega (arith, all l (u .0) (u .1) .0, e, grows))))
+
+  pub kept-inherit : (h g : ℕ) → AllPass (inheritChecks w z j h g) → Kept w offers (inheritEffect w z j h g) offers
+  unfolding inheritChecks inheritEffect source isSource inherited number
+  kept-inherit h g p =
+      let member : hasMember (members w z j) h ≡ true = search in
+      let waits : isPending (replicaOf w (configuration w z j) h) ≡ true = search in
+      let from : (hasMember (members w z (j - 1)) g && isImmutable (replicaOf w (configuration w z (j - 1)) g)) ≡ true = search in
+      let parts = both (hasMember (members w z (j - 1)) g) (isImmutable (replicaOf w (configuration w z (j - 1)) g)) .0 from in
+      let later : 1 ≤ j = member-proper (formed x) hz hj h member .waits waits .1 in
+      let next : suc (j - 1) ≡ j = omega arith in
+      let before : j - 1 < 8 = omega arith in
+      let few = number-small (formed x) hz before g (parts .0) in
+      let old = member-view (formed x) hz before g (parts .0) in
+      rw old
+      (at-member h member (inherited (view w z (j - 1) (replicaNumber (members w z (j - 1)) g)))
+      (view-short (j - 1) (replicaNumber (members w z (j - 1)) g) before few)
+      (λ a. wider-refl)
+      (subst (λ (q : ℕ). Move (view w z) (offers z) q (number h) (inherited (view w z (j - 1) (replicaNumber (members w z (j - 1)) g)))) next
+      (inherit-move (x .inv z hz) (j - 1) (number h) (replicaNumber (members w z (j - 1)) g)
+      (subst (λ (q : ℕ). view w z q (number h) .mode ≡ 1) (sym next) (pending-mode _ (rw (shown h member) at waits)))
+      (immutable-mode _ (rw old at (parts .1))))))

@@ -1,0 +1,50 @@
+-- Laws of tests: what a conjunction and a test of a range say, and how they pass.
+use Prim.Native.Nat.{ℕ, zero, suc, _<_}
+use native.Mathlib.Nat.{le-refl}
+use native.Mathlib.Omega.{arith}
+use native.Mathlib.Decide.{decLt}
+use mathlib.Core.Path.{_≡_, refl, subst}
+use mathlib.Core.Logic.{_↔_}
+use mathlib.Core.Bool.{Bool, true, false, _&&_, false≢true}
+use mathlib.Core.List.{List, [], _∷_}
+use Rattle.model.specs.Tests.{allBelow}
+
+-- a conjunction of two tests passes where both pass
+pub both : (a b : Bool) → (a && b ≡ true) ↔ ((a ≡ true) × (b ≡ true))
+both true b = (λ e. (refl, e), λ k. k .1)
+both false b = (λ e. absurd (false≢true e), λ k. k .0)
+
+-- the conjunction a && b && .. of several tests, and that each of them passes
+abbrev pub conjunction : Bool → List Bool → Bool
+conjunction a [] = a
+conjunction a (b ∷ bs) = conjunction (a && b) bs
+
+abbrev pub Passing : List Bool → Type 0
+Passing [] = Unit {0}
+Passing (b ∷ bs) = (b ≡ true) × Passing bs
+
+pub all-pass : (a : Bool) (bs : List Bool) → conjunction a bs ≡ true → Passing (a ∷ bs)
+all-pass a [] e = (e, tt)
+all-pass a (b ∷ bs) e =
+    let p = all-pass (a && b) bs e in
+    let t = both a b .0 (p .0) in
+    (t .0, (t .1, p .1))
+
+pub pass-all : (a : Bool) (bs : List Bool) → Passing (a ∷ bs) → conjunction a bs ≡ true
+pass-all a [] p = p .0
+pass-all a (b ∷ bs) p = pass-all (a && b) bs (both a b .1 (p .0, p .1 .0), p .1 .1)
+
+-- a test of a range passes where it passes at each number below n
+pub all-below : (n : ℕ) (f : ℕ → Bool) → allBelow n f ≡ true → (i : ℕ) → i < n → f i ≡ true
+unfolding allBelow
+all-below zero f e i h = absurd (omega arith)
+all-below (suc n) f e i h = go (both (allBelow n f) (f n) .0 e) (all-below n f) (decLt i n)
+  where
+    go : (allBelow n f ≡ true) × (f n ≡ true) → (allBelow n f ≡ true → (k : ℕ) → k < n → f k ≡ true) → Dec (i < n) → f i ≡ true
+    go b rest (yes l) = rest (b .0) i l
+    go b rest (no l) = subst (λ (k : ℕ). f k ≡ true) (omega arith) (b .1)
+
+pub below-all : (n : ℕ) (f : ℕ → Bool) → ((i : ℕ) → i < n → f i ≡ true) → allBelow n f ≡ true
+unfolding allBelow
+below-all zero f h = refl
+below-all (suc n) f h = both (allBelow n f) (f n) .1 (below-all n f (λ i l. h i (omega arith)), h n (le-refl (suc n)))

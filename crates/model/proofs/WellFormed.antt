@@ -1,0 +1,123 @@
+-- Well-formedness as propositions: what the test of a whole state says, and that this is enough for it.
+use Prim.Native.Nat.{ℕ, _+_, _*_, _≤_, _<_}
+use mathlib.Core.Path.{_≡_, ap}
+use mathlib.Core.Bool.{Bool, true, not}
+use mathlib.Core.List.{List, [], _∷_}
+use lib.Dec.{leb, ltb, eqb}
+use lib.ListN.{length}
+use borrow.Author.Tests.{leb-true, le-leb, eqb-true, eq-eqb, eqb-false, ne-eqb, not-true}
+use Rattle.model.specs.Tests.{allBelow}
+use Rattle.model.specs.Members.{size}
+use Rattle.model.specs.Layout.{shardsOf, place, headWord, sequencer, installed, members, part}
+use Rattle.model.specs.WellFormed.{isPart, isSequencer, allDiffer, isHeadOf, isConfigurationOf, isShard, wellFormed}
+use Rattle.model.proofs.Tests.{both, all-pass, pass-all, all-below, below-all}
+use Rattle.model.proofs.Places.{length-of-shards}
+
+-- the head words of shard z
+pub record Head (Z : ℕ) (w : List ℕ) (z : ℕ) : Type 0 where
+  pub sequenced : isSequencer Z z (sequencer w z) ≡ true
+  pub least : 1 ≤ installed w z
+  pub most : installed w z ≤ 8
+  pub configured : (j : ℕ) → j < 8 → isHeadOf w z j ≡ true
+  pub rest : (i : ℕ) → i < 46 → headWord w z (18 + i) ≡ 0
+
+-- the state w of Z shards: their head words, their sequencers, no two alike, and their replicas
+pub record WellFormed (Z : ℕ) (w : List ℕ) : Type 0 where
+  pub shards : shardsOf (length w) ≡ Z
+  pub several : 2 ≤ Z
+  pub head : (z : ℕ) → z < Z → Head Z w z
+  pub differ : (a b : ℕ) → a < Z → b < a → sequencer w b ≡ sequencer w a → ⊥
+  pub parts : (z j k : ℕ) → z < Z → j < 8 → k < 4 → isPart Z j (ltb k (size (members w z j))) (part w (place z j k)) ≡ true
+
+pub size-of : {Z : ℕ} {w : List ℕ} → WellFormed Z w → length w ≡ Z * 2112
+size-of {Z} {w} f = length-of-shards w Z (f .shards) (f .several) .0
+
+-- ---- sequencers that differ
+
+pub all-differ : (Z : ℕ) (q : ℕ → ℕ) → allDiffer Z q ≡ true → (a b : ℕ) → a < Z → b < a → q b ≡ q a → ⊥
+unfolding allDiffer
+all-differ Z q e a b ha hb =
+    eqb-false (q b) (q a)
+    (not-true (eqb (q b) (q a))
+    (all-below a (λ b. not (eqb (q b) (q a))) (all-below Z (λ a. allBelow a (λ b. not (eqb (q b) (q a)))) e a ha) b hb))
+
+pub differ-all : (Z : ℕ) (q : ℕ → ℕ) → ((a b : ℕ) → a < Z → b < a → q b ≡ q a → ⊥) → allDiffer Z q ≡ true
+unfolding allDiffer
+differ-all Z q f =
+    below-all Z (λ a. allBelow a (λ b. not (eqb (q b) (q a))))
+    (λ a ha. below-all a (λ b. not (eqb (q b) (q a))) (λ b hb. ap not (ne-eqb (q b) (q a) (f a b ha hb))))
+
+-- ---- a shard
+
+module _ (w : List ℕ) (Z z : ℕ) where
+  -- the replicas of configuration j
+  isReplicasOf : ℕ → ℕ → Bool
+  isReplicasOf j k = isPart Z j (ltb k (size (members w z j))) (part w (place z j k))
+
+  isRest : ℕ → Bool
+  isRest i = eqb (headWord w z (18 + i)) 0
+
+  tests : List Bool
+  tests = leb 1 (installed w z) ∷ leb (installed w z) 8 ∷ allBelow 8 (isConfigurationOf w Z z) ∷ allBelow 46 isRest ∷ []
+
+  shard-configuration : isShard w Z z ≡ true → (j : ℕ) → j < 8 → (isHeadOf w z j ≡ true) × (allBelow 4 (isReplicasOf j) ≡ true)
+  unfolding isShard isConfigurationOf isReplicasOf isRest tests
+  shard-configuration e j h =
+      let p = all-pass (isSequencer Z z (sequencer w z)) tests e in
+      both (isHeadOf w z j) (allBelow 4 (isReplicasOf j)) .0 (all-below 8 (isConfigurationOf w Z z) (p .1 .1 .1 .0) j h)
+
+  shard-head : isShard w Z z ≡ true → Head Z w z
+  unfolding isShard isRest tests
+  shard-head e =
+      let p = all-pass (isSequencer Z z (sequencer w z)) tests e in
+      record {
+        sequenced = p .0;
+        least = leb-true 1 (installed w z) (p .1 .0);
+        most = leb-true (installed w z) 8 (p .1 .1 .0);
+        configured = λ j h. shard-configuration e j h .0;
+        rest = λ i h. eqb-true (headWord w z (18 + i)) 0 (all-below 46 isRest (p .1 .1 .1 .1 .0) i h);
+      }
+
+  shard-part : isShard w Z z ≡ true → (j k : ℕ) → j < 8 → k < 4 → isReplicasOf j k ≡ true
+  shard-part e j k hj hk = all-below 4 (isReplicasOf j) (shard-configuration e j hj .1) k hk
+
+  head-shard : Head Z w z → ((j k : ℕ) → j < 8 → k < 4 → isReplicasOf j k ≡ true) → isShard w Z z ≡ true
+  unfolding isShard isConfigurationOf isReplicasOf isRest tests
+  head-shard f g =
+      pass-all (isSequencer Z z (sequencer w z)) tests (
+        f .sequenced,
+        (
+          le-leb 1 (installed w z) (f .least),
+          (
+            le-leb (installed w z) 8 (f .most),
+            (
+              below-all 8 (isConfigurationOf w Z z) (λ j hj. both (isHeadOf w z j) (allBelow 4 (isReplicasOf j)) .1 (f .configured j hj, below-all 4 (isReplicasOf j) (λ k hk. g j k hj hk))),
+              (below-all 46 isRest (λ i h. eq-eqb (headWord w z (18 + i)) 0 (f .rest i h)), tt),
+            ),
+          ),
+        ),
+      )
+
+-- ---- a whole state
+
+pub well-formed : (w : List ℕ) (Z : ℕ) → shardsOf (length w) ≡ Z → 2 ≤ Z → wellFormed w ≡ true → WellFormed Z w
+unfolding wellFormed isReplicasOf
+well-formed w Z c h e =
+    let t = both (allBelow Z (isShard w Z)) (allDiffer Z (sequencer w)) .0 (rw c at e) in
+    let s : (z : ℕ) → z < Z → isShard w Z z ≡ true = all-below Z (isShard w Z) (t .0) in
+    record {
+      shards = c;
+      several = h;
+      head = λ z hz. shard-head w Z z (s z hz);
+      differ = all-differ Z (sequencer w) (t .1);
+      parts = λ z j k hz hj hk. shard-part w Z z (s z hz) j k hj hk;
+    }
+
+pub is-well-formed : {Z : ℕ} {w : List ℕ} → WellFormed Z w → wellFormed w ≡ true
+unfolding wellFormed isReplicasOf
+is-well-formed {Z} {w} f =
+    rw (f .shards)
+    (both (allBelow Z (isShard w Z)) (allDiffer Z (sequencer w)) .1 (
+      below-all Z (isShard w Z) (λ z hz. head-shard w Z z (f .head z hz) (λ j k hj hk. f .parts z j k hz hj hk)),
+      differ-all Z (sequencer w) (f .differ),
+    ))

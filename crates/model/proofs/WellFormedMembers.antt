@@ -1,0 +1,81 @@
+-- The members of a well-formed state's configurations: at most four, their replicas proper.
+use Prim.Native.Nat.{ℕ, _≤_, _<_}
+use native.Mathlib.Omega.{arith}
+use mathlib.Core.Path.{_≡_, refl, ap, subst}
+use mathlib.Core.Bool.{Bool, true, false}
+use mathlib.Core.List.{List, [], _∷_}
+use lib.Dec.{leb, ltb, eqb}
+use lib.Count.{ones}
+use borrow.Author.Tests.{leb-true, ltb-true, lt-ltb, eqb-true}
+use Rattle.model.specs.Members.{isHost, size, hasMember, isMemberSet, isConfiguration}
+use Rattle.model.specs.Layout.{place, members, orderer, isInstalled, part, replicaAt}
+use Rattle.model.specs.Configuration.{configuration, replicaOf}
+use Rattle.model.specs.WellFormed.{isPart, isHeadOf}
+use Rattle.model.proofs.Tests.{both, all-pass}
+use Rattle.model.proofs.Places.{replica-place}
+use Rattle.model.proofs.Members.{number-below}
+use Rattle.model.proofs.WellFormedParts.{Proper, part-proper}
+use Rattle.model.proofs.WellFormed.{WellFormed}
+
+-- a member set with its orderer
+pub record Configured (m o : ℕ) : Type 0 where
+  pub below : m < 65536
+  pub size-least : 1 ≤ size m
+  pub size-most : size m ≤ 4
+  pub host : o < 16
+  pub has : hasMember m o ≡ true
+
+pub configured : (m o : ℕ) → isConfiguration m o ≡ true → Configured m o
+unfolding isConfiguration isMemberSet isHost
+configured m o e =
+    let p = all-pass (isMemberSet m) (isHost o ∷ hasMember m o ∷ []) e in
+    let t = all-pass (ltb m 65536) (leb 1 (size m) ∷ leb (size m) 4 ∷ []) (p .0) in
+    record {
+      below = ltb-true m 65536 (t .0);
+      size-least = leb-true 1 (size m) (t .1 .0);
+      size-most = leb-true (size m) 4 (t .1 .1 .0);
+      host = ltb-true o 16 (p .1 .0);
+      has = p .1 .1 .0;
+    }
+
+-- ---- the head words of a configuration
+
+pub head-installed : (w : List ℕ) (z j : ℕ) → isHeadOf w z j ≡ true → isInstalled w z j ≡ true → Configured (members w z j) (orderer w z j)
+unfolding isHeadOf
+head-installed w z j e i = configured (members w z j) (orderer w z j) (rw i at e)
+
+pub head-open : (w : List ℕ) (z j : ℕ) → isHeadOf w z j ≡ true → isInstalled w z j ≡ false → members w z j ≡ 0
+unfolding isHeadOf
+head-open w z j e i = eqb-true (members w z j) 0 (both (eqb (members w z j) 0) (eqb (orderer w z j) 0) .0 (rw i at e) .0)
+
+pub size-none : (m : ℕ) → m ≡ 0 → size m ≡ 0
+unfolding ones
+size-none m e = ap ones e
+
+-- ---- the configurations of a well-formed state
+
+module _ {Z : ℕ} {w : List ℕ} (f : WellFormed Z w) {z j : ℕ} (hz : z < Z) (hj : j < 8) where
+  pub size-few : size (members w z j) ≤ 4
+  size-few = go (isInstalled w z j) refl
+    where
+      head : isHeadOf w z j ≡ true
+      head = f .head z hz .configured j hj
+
+      go : (b : Bool) → isInstalled w z j ≡ b → size (members w z j) ≤ 4
+      go true i = head-installed w z j head i .size-most
+      go false i = omega (arith, size-none (members w z j) (head-open w z j head i))
+
+  pub orderer-is-member : isInstalled w z j ≡ true → hasMember (members w z j) (orderer w z j) ≡ true
+  orderer-is-member i = head-installed w z j (f .head z hz .configured j hj) i .has
+
+  -- a replica below the size
+  pub replica-proper : {k : ℕ} → k < size (members w z j) → Proper Z j (replicaAt w (place z j k))
+  unfolding replicaAt
+  replica-proper {k} h =
+      part-proper Z j (part w (place z j k))
+      (subst (λ (b : Bool). isPart Z j b (part w (place z j k)) ≡ true) (lt-ltb k (size (members w z j)) h)
+      (f .parts z j k hz hj (omega (arith, size-few))))
+
+  pub member-proper : (h : ℕ) → hasMember (members w z j) h ≡ true → Proper Z j (replicaOf w (configuration w z j) h)
+  unfolding replicaOf
+  member-proper h e = rw (replica-place w z j h) (replica-proper (number-below (members w z j) h e))

@@ -1,0 +1,90 @@
+-- Add, adopt, learn, wedge and inherit keep a state well-formed.
+use Prim.Native.Nat.{ℕ, _-_, _≤_, _<_}
+use native.Mathlib.Omega.{arith}
+use mathlib.Core.Path.{_≡_}
+use mathlib.Core.Bool.{true}
+use mathlib.Core.List.{List}
+use lib.Dec.{leb, eqb}
+use lib.ListN.{length, getD}
+use borrow.Author.Tests.{leb-true, ltb-true}
+use Rattle.model.specs.Tests.{allBelow}
+use Rattle.model.specs.Members.{size, hasMember, replicaNumber}
+use Rattle.model.specs.Entries.{isEntry}
+use Rattle.model.specs.Replicas.{Replica, isImmutable, added, adopted, learned, wedged, inherited}
+use Rattle.model.specs.Layout.{place, members, orderer, isInstalled, replicaAt, putReplica}
+use Rattle.model.specs.Configuration.{configuration, replicaPlace, replicaOf}
+use Rattle.model.specs.Add.{ordererPlace, ordererReplica, addChecks, addEffect}
+use Rattle.model.specs.Adopt.{adoptChecks, adoptEffect}
+use Rattle.model.specs.Learn.{alike, allAlike, learnChecks, learnEffect}
+use Rattle.model.specs.Wedge.{wedgeChecks, wedgeEffect}
+use Rattle.model.specs.Inherit.{source, isSource, inheritChecks, inheritEffect}
+use Rattle.model.proofs.Tests.{both, all-below}
+use Rattle.model.proofs.Places.{replica-place}
+use Rattle.model.proofs.Members.{number-below}
+use Rattle.model.proofs.Checks.{AllPass}
+use Rattle.model.proofs.WellFormedParts.{Proper}
+use Rattle.model.proofs.WellFormed.{WellFormed}
+use Rattle.model.proofs.WellFormedMembers.{orderer-is-member, member-proper}
+use Rattle.model.proofs.WellFormedPut.{put-keeps}
+use Rattle.model.proofs.ProperReplicas.{added-proper, adopted-proper, learned-proper, wedged-proper, inherited-proper}
+
+-- histories that are alike as far as n are n long
+long : (n : ℕ) (f g : List ℕ) → alike n f g ≡ true → n ≤ length g
+unfolding alike
+long n f g e = leb-true n (length g) (both (leb n (length g)) (allBelow n (λ p. eqb (getD g p 0) (getD f p 0))) .0 e .0)
+
+module _ {Z : ℕ} {w : List ℕ} (f : WellFormed Z w) {z j : ℕ} (hz : z < Z) (hj : j < 8) where
+  -- a member's replica is written anew
+  put-member : (h : ℕ) → hasMember (members w z j) h ≡ true → (r : Replica) → Proper Z j r
+      → WellFormed Z (putReplica w (replicaPlace (configuration w z j) h) r)
+  put-member h e r p = rw (replica-place w z j h) (put-keeps f hz hj (number-below (members w z j) h e) r p)
+
+  -- the orderer's replica, of an installed configuration
+  orderer-proper : isInstalled w z j ≡ true → Proper Z j (ordererReplica w z j)
+  unfolding ordererReplica configuration
+  orderer-proper i = member-proper f hz hj (orderer w z j) (orderer-is-member f hz hj i)
+
+  pub add-keeps : (e : ℕ) → isEntry Z e ≡ true → AllPass (addChecks w z j e) → WellFormed Z (addEffect w z j e)
+  unfolding addChecks addEffect ordererPlace configuration
+  add-keeps e h p =
+      let i : isInstalled w z j ≡ true = search in
+      put-member (orderer w z j) (orderer-is-member f hz hj i) (added e (ordererReplica w z j))
+      (added-proper (orderer-proper i) e (search) h (ltb-true (length (ordererReplica w z j .history)) 56 (search)))
+
+  pub adopt-keeps : (h : ℕ) → AllPass (adoptChecks w z j h) → WellFormed Z (adoptEffect w z j h)
+  unfolding adoptChecks adoptEffect
+  adopt-keeps h p =
+      put-member h (search) (adopted (ordererReplica w z j) (replicaOf w (configuration w z j) h))
+      (adopted-proper (orderer-proper (search)) (replicaOf w (configuration w z j) h) (search))
+
+  -- the acting host's history is among those that are alike
+  learn-long : (h n : ℕ) (l : List ℕ) → hasMember (members w z j) h ≡ true → allAlike w z j n l ≡ true
+      → n ≤ length (replicaOf w (configuration w z j) h .history)
+  unfolding allAlike replicaOf
+  learn-long h n l e a =
+      rw (replica-place w z j h)
+      (long n l (replicaAt w (place z j (replicaNumber (members w z j) h)) .history)
+      (all-below (size (members w z j)) (λ k. alike n l (replicaAt w (place z j k) .history)) a (replicaNumber (members w z j) h)
+      (number-below (members w z j) h e)))
+
+  pub learn-keeps : (h n : ℕ) → AllPass (learnChecks w z j h n) → WellFormed Z (learnEffect w z j h n)
+  unfolding learnChecks learnEffect
+  learn-keeps h n p =
+      let e : hasMember (members w z j) h ≡ true = search in
+      put-member h e (learned n (replicaOf w (configuration w z j) h))
+      (learned-proper (member-proper f hz hj h e) n (search)
+      (learn-long h n (replicaOf w (configuration w z j) h .history) e (search)))
+
+  pub wedge-keeps : (h : ℕ) → AllPass (wedgeChecks w z j h) → WellFormed Z (wedgeEffect w z j h)
+  unfolding wedgeChecks wedgeEffect
+  wedge-keeps h p =
+      let e : hasMember (members w z j) h ≡ true = search in
+      put-member h e (wedged (replicaOf w (configuration w z j) h)) (wedged-proper (member-proper f hz hj h e))
+
+  pub inherit-keeps : (h g : ℕ) → AllPass (inheritChecks w z j h g) → WellFormed Z (inheritEffect w z j h g)
+  unfolding inheritChecks inheritEffect isSource source
+  inherit-keeps h g p =
+      let e : hasMember (members w z j) h ≡ true = search in
+      let s = both (hasMember (members w z (j - 1)) g) (isImmutable (source w z j g)) .0 (search) in
+      put-member h e (inherited (source w z j g))
+      (inherited-proper (member-proper f hz (omega arith) g (s .0)) j)

@@ -1,0 +1,47 @@
+-- The six kinds of steps, and how many numbers each uses (document 01, "Steps" and rejections 3 and 4).
+use Prim.Native.Nat.{ℕ}
+use mathlib.Core.Bool.{Bool, true, false, cond, not, _&&_}
+use lib.Dec.{leb, eqb}
+use Rattle.model.specs.declared.kind.Kind.{Kind}
+use Rattle.model.specs.declared.kind.Kind.the-variants.{Add, Adopt, Learn, Wedge, Install, Inherit, Kept, Unknown}
+
+-- "1 add", "2 adopt", "3 confirm" (here: learn), "4 wedge", "5 install", "6 inherit"; "kind 7 to 31, which are kept for later"; "kind 0 or above 31"
+unfoldable pub kindOf : ℕ → Kind
+kindOf n =
+    cond (eqb n 1) Add
+    (cond (eqb n 2) Adopt
+    (cond (eqb n 3) Learn
+    (cond (eqb n 4) Wedge (cond (eqb n 5) Install (cond (eqb n 6) Inherit (cond (leb 7 n && leb n 31) Kept Unknown))))))
+
+-- rejection 3
+unfoldable pub isKept : Kind → Bool
+isKept Add = false
+isKept Adopt = false
+isKept Learn = false
+isKept Wedge = false
+isKept Install = false
+isKept Inherit = false
+isKept Kept = true
+isKept Unknown = false
+
+-- rejection 4
+unfoldable pub isUnknown : Kind → Bool
+isUnknown Add = false
+isUnknown Adopt = false
+isUnknown Learn = false
+isUnknown Wedge = false
+isUnknown Install = false
+isUnknown Inherit = false
+isUnknown Kept = false
+isUnknown Unknown = true
+
+-- the table's column "numbers"
+unfoldable pub usedNumbers : Kind → ℕ
+usedNumbers Add = 3
+usedNumbers Adopt = 3
+usedNumbers Learn = 4
+usedNumbers Wedge = 3
+usedNumbers Install = 4
+usedNumbers Inherit = 4
+usedNumbers Kept = 0
+usedNumbers Unknown = 0

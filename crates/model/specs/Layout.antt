@@ -1,0 +1,60 @@
+-- Where a state's words are (document 01, "State": "Z blocks of 2,112 words, Z from 2 to 8 .. 64 head words, then 32 seats of 64 words").
+-- Configurations are counted from 0 here: configuration j has index j + 1.
+use Prim.Native.Nat.{ℕ, _+_, _*_, _/_}
+use mathlib.Core.Bool.{Bool, cond, _&&_}
+use mathlib.Core.List.{List, _++_}
+use lib.Dec.{leb, ltb, eqb}
+use lib.ListN.{length, getD, take, drop, set}
+use Rattle.model.specs.Replicas.{Replica, readReplica, replicaWords}
+
+-- the Z of a length 2,112 × Z, Z from 2 to 8; 0 for any other length
+unfoldable pub shardsOf : ℕ → ℕ
+shardsOf n = cond (eqb (n / 2112 * 2112) n && leb 2 (n / 2112) && leb (n / 2112) 8) (n / 2112) 0
+
+-- rejection 1: "State length is no 2,112 × Z"
+unfoldable pub isStateLength : ℕ → Bool
+isStateLength n = leb 2 (shardsOf n)
+
+-- the place of head word i of shard z
+unfoldable pub headPlace : ℕ → ℕ → ℕ
+headPlace z i = z * 2112 + i
+
+-- the place of replica k of configuration j of shard z: "index 1 seats 0 to 3, then index 2, up to index 8"
+unfoldable pub place : ℕ → ℕ → ℕ → ℕ
+place z j k = z * 2112 + 64 + j * 256 + k * 64
+
+unfoldable pub headWord : List ℕ → ℕ → ℕ → ℕ
+headWord w z i = getD w (headPlace z i) 0
+
+-- "Head word 0: the zone's sequencer"
+unfoldable pub sequencer : List ℕ → ℕ → ℕ
+sequencer w z = headWord w z 0
+
+-- "Word 1: how many configurations are installed"
+unfoldable pub installed : List ℕ → ℕ → ℕ
+installed w z = headWord w z 1
+
+-- "Words 2 to 9: member sets of index 1 to 8"
+unfoldable pub members : List ℕ → ℕ → ℕ → ℕ
+members w z j = headWord w z (2 + j)
+
+-- "Words 10 to 17: orderer boxes of index 1 to 8"
+unfoldable pub orderer : List ℕ → ℕ → ℕ → ℕ
+orderer w z j = headWord w z (10 + j)
+
+-- index j + 1 is installed
+unfoldable pub isInstalled : List ℕ → ℕ → ℕ → Bool
+isInstalled w z j = ltb j (installed w z)
+
+-- a replica's 64 words, the replica that they hold, and the state with another replica there
+unfoldable pub part : List ℕ → ℕ → List ℕ
+part w at = take 64 (drop at w)
+
+unfoldable pub replicaAt : List ℕ → ℕ → Replica
+replicaAt w at = readReplica (part w at)
+
+unfoldable pub putReplica : List ℕ → ℕ → Replica → List ℕ
+putReplica w at r = take at w ++ (replicaWords r ++ drop (at + 64) w)
+
+unfoldable pub putHead : List ℕ → ℕ → ℕ → ℕ → List ℕ
+putHead w z i x = set w (headPlace z i) x
