@@ -32,7 +32,9 @@ pub proper-issue : (Z e : ℕ) → isEntry Z e ≡ true → isIssue e ≡ true �
 unfolding isEntry isProperIssue
 proper-issue Z e h i =
     let q = other (isTake e) (isProperIssue Z e) h (λ t. take-no-issue e t i) in
-    let p = all-pass (isIssue e) (leb 2 (issueIndex e) ∷ leb (issueIndex e) 8 ∷ ltb (issueShard e) Z ∷ isConfiguration (issueMembers e) (issueOrderer e) ∷ []) q in
+    let p = all-pass (isIssue e)
+    (leb 2 (issueIndex e) ∷ leb (issueIndex e) 8 ∷ ltb (issueShard e) Z ∷ isConfiguration (issueMembers e) (issueOrderer e) ∷ [])
+    q in
     record {
       index-least = leb-true 2 (issueIndex e) (p .1 .0);
       index-most = leb-true (issueIndex e) 8 (p .1 .1 .0);

@@ -41,7 +41,7 @@ first-at z i (x ∷ l) (suc p) h e n =
 
 pub none-before : (z i p : ℕ) (l : List ℕ) → noneBefore z i p l ≡ true → (q : ℕ) → q < p → names z i (getD l q 0) ≡ false
 unfolding noneBefore
-none-before z i p l e q h = not-true (names z i (getD l q 0)) (all-below p (λ q. not (names z i (getD l q 0))) e q h)
+none-before z i p l e q h = not-true (names z i (getD l q 0)) (search (all-below _ _ e))
 
 -- a number from its digits: 8, 4, 4 and 16 bits, and 1 above them
 digits : (e a b c d m o s i : ℕ) → a * 2 ^ 16 + m ≡ e → b * 2 ^ 4 + o ≡ a → c * 2 ^ 4 + s ≡ b → d * 2 ^ 8 + i ≡ c → d ≡ 1

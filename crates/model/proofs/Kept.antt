@@ -5,15 +5,13 @@ use native.Mathlib.Nat.{lt-of-lt-of-le}
 use mathlib.Core.Path.{_≡_, refl, sym, ap, subst, _∙_}
 use mathlib.Core.Bool.{true}
 use mathlib.Core.List.{List}
-use lib.Dec.{ltb}
-use borrow.Author.Tests.{ltb-true}
 use Rattle.model.specs.Entries.{issue, firstIssue}
 use Rattle.model.specs.Layout.{sequencer, installed, members, orderer}
-use Rattle.model.specs.WellFormed.{wellFormed, isSequencer}
+use Rattle.model.specs.WellFormed.{wellFormed}
 use Rattle.model.specs.StableHistory.{stableHistory}
 use Rattle.model.specs.Prefixes.{Begins}
 use Rattle.model.specs.OneList.{shards}
-use Rattle.model.proofs.Tests.{both}
+use Rattle.model.proofs.WellFormedInstall
 use Rattle.model.proofs.Histories.{Wider, offered-wider}
 use Rattle.model.proofs.Views.{View, Inv}
 use Rattle.model.proofs.StateViews.{view, stable-grows}
@@ -34,9 +32,7 @@ formed {w} x = well-formed w (shards w) refl (x .several) (x .formed)
 
 -- a sequencer is a shard
 pub sequencer-below : {w : List ℕ} {offers : ℕ → List ℕ} → Safe w offers → (z : ℕ) → z < shards w → sequencer w z < shards w
-unfolding isSequencer
-sequencer-below {w} x z h =
-    ltb-true (sequencer w z) (shards w) (both (ltb (sequencer w z) (shards w)) _ .0 (formed x .head z h .sequenced) .0)
+sequencer-below {w} x z h = WellFormedInstall.sequencer-below (shards w) z (sequencer w z) (formed x .head z h .sequenced)
 
 -- a view that shows the same replicas, with a wider offer
 pub inv-same : {v v′ : View} {o o′ : List ℕ} → Inv v o → ((a b : ℕ) → v′ a b ≡ v a b) → Wider o o′ → Inv v′ o′

@@ -39,14 +39,12 @@ use Rattle.model.proofs.WellFormedParts.{part-vacant}
 use Rattle.model.proofs.WellFormedMembers.{orderer-is-member, member-proper}
 use Rattle.model.proofs.SeatedReplica.{number-small, member-view}
 use Rattle.model.proofs.Safe.{Safe}
+use Rattle.model.proofs.ProperReplicas.{active-mode}
+use Rattle.model.proofs.Alike.{every-alike, alike-long, alike-begins}
 use Rattle.model.proofs.Kept.{Kept, formed}
 use Rattle.model.proofs.KeptPut.{kept-put}
 
 -- modes by their tests
-active-mode : (r : Replica) → isActive r ≡ true → r .mode ≡ 2
-unfolding isActive
-active-mode r e = eqb-true (r .mode) 2 e
-
 pending-mode : (r : Replica) → isPending r ≡ true → r .mode ≡ 1
 unfolding isPending
 pending-mode r e = eqb-true (r .mode) 1 e
@@ -59,30 +57,6 @@ immutable-mode r e = eqb-true (r .mode) 3 e
 vacant-mode : (Z j : ℕ) (w : List ℕ) (at : ℕ) → isPart Z j false (part w at) ≡ true → replicaAt w at .mode ≡ 0
 unfolding replicaAt
 vacant-mode Z j w at e = part-vacant Z j (part w at) e .mode-none
-
-alike-long : (n : ℕ) (f g : List ℕ) → alike n f g ≡ true → n ≤ length g
-unfolding alike
-alike-long n f g e = leb-true n (length g) (both (leb n (length g)) (allBelow n (λ p. eqb (getD g p 0) (getD f p 0))) .0 e .0)
-
--- a history that is alike in n entries begins with those n
-alike-begins : (n : ℕ) (f g : List ℕ) → n ≤ length f → alike n f g ≡ true → (n ≤ length g) × Begins (take n f) g
-unfolding alike
-alike-begins n f g h e = (long, record { starts = ap (λ (k : ℕ). take k g) (length-take-le n f h) ∙ same })
-  where
-    tests : (leb n (length g) ≡ true) × (allBelow n (λ p. eqb (getD g p 0) (getD f p 0)) ≡ true)
-    tests = both (leb n (length g)) (allBelow n (λ p. eqb (getD g p 0) (getD f p 0))) .0 e
-
-    long : n ≤ length g
-    long = leb-true n (length g) (tests .0)
-
-    same : take n g ≡ take n f
-    same =
-        ext-getD 0 (take n g) (take n f) (length-take-le n g long ∙ sym (length-take-le n f h))
-        (λ i l.
-        let q : i < n = rw (length-take-le n g long) at l in
-        getD-take n g i 0 q
-        ∙ eqb-true (getD g i 0) (getD f i 0) (all-below n (λ p. eqb (getD g p 0) (getD f p 0)) (tests .1) i q)
-        ∙ sym (getD-take n f i 0 q))
 
 added-short : (e : ℕ) (r : Replica) → length (r .history) < 56 → length (added e r .history) ≤ 56
 unfolding added
@@ -145,13 +119,16 @@ module _ {w : List ℕ} {offers : ℕ → List ℕ} (x : Safe w offers) {z j : �
   all-begin : (n k : ℕ) → k < size (members w z j) → k < 4 → allAlike w z j n (view w z j k .history) ≡ true
       → (l : ℕ) → l < size (members w z j) → l < 4
       → (n ≤ length (view w z j l .history)) × Begins (take n (view w z j k .history)) (view w z j l .history)
-  unfolding allAlike
-  all-begin n k hk k4 e l hl l4 = alike-begins n (view w z j k .history) (view w z j l .history) own (test l hl l4)
+  all-begin n k hk k4 e l hl l4 = (alike-long n own-history other (test l hl l4), alike-begins n own-history other own (test l hl l4))
     where
+      own-history : List ℕ
+      own-history = view w z j k .history
+
+      other : List ℕ
+      other = view w z j l .history
+
       test : (l : ℕ) → l < size (members w z j) → l < 4 → alike n (view w z j k .history) (view w z j l .history) ≡ true
-      test l hl l4 =
-          rw (view-in w z hj l4)
-          (all-below (size (members w z j)) (λ k′. alike n (view w z j k .history) (replicaAt w (place z j k′) .history)) e l hl)
+      test l hl l4 = rw (view-in w z hj l4) (every-alike w z j n own-history e l hl)
 
       own : n ≤ length (view w z j k .history)
       own = alike-long n (view w z j k .history) (view w z j k .history) (test k hk k4)

@@ -1,6 +1,6 @@
 -- Add, adopt, learn, wedge and inherit as moves of a view: the facts of each new replica.
 -- Assumes nothing.
-use Prim.Native.Nat.{ℕ, zero, suc, _+_, _-_, _≤_, _<_, min, max}
+use Prim.Native.Nat.{ℕ, zero, suc, _+_, _-_, _≤_, _<_}
 use native.Mathlib.Nat.{le-refl, le-of-lt, add-zero, add-suc, suc-inj}
 use native.Mathlib.Omega.{arith}
 use mathlib.Core.Path.{_≡_, refl, sym, ap, _∙_}
@@ -14,7 +14,7 @@ use lib.Seq.{take-append-le, length-take-le, take-nil}
 use Rattle.model.specs.Tests.{contains}
 use Rattle.model.specs.Replicas.{Replica, stablePrefix, added, adopted, learned, wedged, inherited}
 use Rattle.model.specs.Prefixes.{Begins}
-use Rattle.model.proofs.Prefixes.{begins-le, begins-refl, begins-trans, begins-append, begins-take, begins-take-take, begins-both, begins-same, begins-nil}
+use Rattle.model.proofs.Prefixes.{begins-le, begins-refl, begins-trans, begins-append, begins-take-take, begins-same, begins-nil}
 use Rattle.model.proofs.Histories.{Once, Offered, Wider, once-append, offered-append, offered-wider, offered-prefix}
 use Rattle.model.proofs.Views.{View, Root, Stem, Inv}
 use Rattle.model.proofs.Moves.{Move, prefix-begins}
@@ -38,6 +38,33 @@ data OneOf (q a b : List ℕ) : Type 0 where
 
 root-append : {v : View} {b : ℕ} {l : List ℕ} (e : ℕ) → Root v b l → Root v b (l ++ (e ∷ []))
 root-append e s = record { number = s .number; isImmutable = s .isImmutable; begins = begins-append (e ∷ []) (s .begins) }
+
+-- ---- what adopt makes of a replica r: the history of the orderer's replica o, and a stable length that does not fall
+
+adopted-history : (o r : Replica) → adopted o r .history ≡ o .history
+unfolding adopted
+adopted-history o r = refl
+
+adopted-mode : (o r : Replica) → adopted o r .mode ≡ r .mode
+unfolding adopted
+adopted-mode o r = refl
+
+pub adopted-fits : (o r : Replica) → adopted o r .stable ≤ length (o .history)
+unfolding adopted
+adopted-fits o r = omega arith
+
+adopted-keeps : (o r : Replica) → r .stable ≤ length (o .history) → r .stable ≤ adopted o r .stable
+unfolding adopted
+adopted-keeps o r h = omega arith
+
+adopted-one : (o r : Replica) → r .stable ≤ length (o .history) → o .stable ≤ length (o .history)
+    → (adopted o r .stable ≡ r .stable) ⊎ (adopted o r .stable ≡ o .stable)
+unfolding adopted
+adopted-one o r h g = go (leb (o .stable) (r .stable)) refl
+  where
+    go : (t : Bool) → leb (o .stable) (r .stable) ≡ t → (adopted o r .stable ≡ r .stable) ⊎ (adopted o r .stable ≡ o .stable)
+    go true e = inl (let q = leb-true (o .stable) (r .stable) e in omega arith)
+    go false e = inr (let q = leb-false (o .stable) (r .stable) e in omega arith)
 
 module _ {v : View} {offer : List ℕ} (i : Inv v offer) where
   -- the stable prefix of an unused or pending replica is empty
@@ -168,30 +195,23 @@ module _ {v : View} {offer : List ℕ} (i : Inv v offer) where
     own-in : Begins (stablePrefix (v j k)) (v j o .history)
     own-in = i .reach j k j o (le-refl j) l
 
-    -- the new stable length is the larger of the two
-    adopt-length : min (max (v j k .stable) (v j o .stable)) (length (v j o .history)) ≡ max (v j k .stable) (v j o .stable)
-    adopt-length =
-        omega (arith, begins-le own-in, prefix-length (v j k) (i .fits j k), i .fits j o)
+    -- the replica's own stable length is within the orderer's history, and so is the stable prefix
+    own-within : v j k .stable ≤ length (v j o .history)
+    own-within = omega (arith, begins-le own-in, prefix-length (v j k) (i .fits j k))
+
+    own-prefix : take (v j k .stable) (v j o .history) ≡ stablePrefix (v j k)
+    own-prefix = ap (λ (n : ℕ). take n (v j o .history)) (sym (prefix-length (v j k) (i .fits j k))) ∙ own-in .starts
 
     -- the new stable prefix is one of the two
     adopt-prefix : OneOf (stablePrefix (adopted (v j o) (v j k))) (stablePrefix (v j k)) (stablePrefix (v j o))
-    unfolding adopted stablePrefix
-    adopt-prefix = go (leb (v j o .stable) (v j k .stable)) refl
+    unfolding stablePrefix
+    adopt-prefix = go (adopted-one (v j o) (v j k) own-within (i .fits j o))
       where
-        own : take (v j k .stable) (v j o .history) ≡ take (v j k .stable) (v j k .history)
-        own = ap (λ (n : ℕ). take n (v j o .history)) (sym (prefix-length (v j k) (i .fits j k))) ∙ own-in .starts
-
-        new : ℕ
-        new = min (max (v j k .stable) (v j o .stable)) (length (v j o .history))
-
-        go : (t : Bool) → leb (v j o .stable) (v j k .stable) ≡ t
-            → OneOf (take new (v j o .history)) (take (v j k .stable) (v j k .history)) (take (v j o .stable) (v j o .history))
-        go true e =
-            let s : new ≡ v j k .stable = omega (arith, adopt-length, leb-true (v j o .stable) (v j k .stable) e) in
-            first (ap (λ (n : ℕ). take n (v j o .history)) s ∙ own)
-        go false e =
-            let s : new ≡ v j o .stable = omega (arith, adopt-length, leb-false (v j o .stable) (v j k .stable) e) in
-            second (ap (λ (n : ℕ). take n (v j o .history)) s)
+        go : (adopted (v j o) (v j k) .stable ≡ v j k .stable) ⊎ (adopted (v j o) (v j k) .stable ≡ v j o .stable)
+            → OneOf (take (adopted (v j o) (v j k) .stable) (adopted (v j o) (v j k) .history)) (take (v j k .stable) (v j k .history))
+            (take (v j o .stable) (v j o .history))
+        go (inl e) = first (rw (e, adopted-history (v j o) (v j k)) own-prefix)
+        go (inr e) = second (rw (e, adopted-history (v j o) (v j k)))
 
     adopt-out : (x m : ℕ) → j ≤ x → 2 ≤ v x m .mode → Begins (stablePrefix (adopted (v j o) (v j k))) (v x m .history)
     adopt-out x m h g = go adopt-prefix
@@ -207,29 +227,23 @@ module _ {v : View} {offer : List ℕ} (i : Inv v offer) where
         go (first e) = rw e (own-stem j k (omega (arith, a)) b p q h)
         go (second e) = rw e (own-stem j o l b p q h)
 
-    -- the stable length does not fall
-    adopt-grows : v j k .stable ≤ min (max (v j k .stable) (v j o .stable)) (length (v j o .history))
-    adopt-grows = omega (arith, adopt-length)
-
     adopt-begins : Begins (stablePrefix (v j k)) (stablePrefix (adopted (v j o) (v j k)))
-    unfolding adopted stablePrefix
+    unfolding stablePrefix
     adopt-begins =
-        begins-both own-in (begins-take (min (max (v j k .stable) (v j o .stable)) (length (v j o .history))) (v j o .history))
-        (omega
-        (arith, prefix-length (v j k) (i .fits j k), length-take (min (max (v j k .stable) (v j o .stable)) (length (v j o .history))) (v j o .history), adopt-grows))
+        rw (adopted-history (v j o) (v j k), sym own-prefix)
+        (begins-take-take (v j o .history) (adopted-keeps (v j o) (v j k) own-within))
 
     pub adopt-move : Move v offer j k (adopted (v j o) (v j k))
-    unfolding adopted
     adopt-move =
         record {
-          live = omega (arith, a);
+          live = rw (adopted-mode (v j o) (v j k)) (omega (arith, a));
           notImmutable = active-not a;
-          fits = omega arith;
+          fits = rw (adopted-history (v j o) (v j k)) (adopted-fits (v j o) (v j k));
           grows = adopt-begins;
-          into = λ x m h. i .reach x m j o h l;
+          into = λ x m h. rw (adopted-history (v j o) (v j k)) (i .reach x m j o h l);
           out = adopt-out;
-          rooted = own-root j o l;
+          rooted = λ b q. rw (adopted-history (v j o) (v j k)) (own-root j o l b q);
           stemmed = λ b p q h g. adopt-stem b p q h;
-          once = i .once j o;
-          offered = i .offered j o;
+          once = rw (adopted-history (v j o) (v j k)) (i .once j o);
+          offered = rw (adopted-history (v j o) (v j k)) (i .offered j o);
         }

@@ -7,6 +7,7 @@ pub mod Checks
 pub mod Members
 pub mod Parts
 pub mod Places
+pub mod Alike
 -- Well-formed states
 pub mod Entries
 pub mod WellFormedParts

@@ -32,17 +32,17 @@ pub groups-more : (k n : ℕ) → 128 ≤ n → groupsOf (suc k) n ≡ (128 + n 
 unfolding groupsOf
 groups-more k n h = rw (le-ltb n 128 h)
 
+-- after another byte a byte 0 is rejected
+pub read-zero : (k : ℕ) (bs : List ℕ) → readGroups (suc k) false (0 ∷ bs) ≡ Rejected 6
+unfolding readGroups
+read-zero k bs = refl
+
 -- a byte below 128 is the number's last; after another byte it is not 0
 pub read-last :
     (k : ℕ) (isFirst : Bool) (b : ℕ) (bs : List ℕ) → b < 128 → (isFirst ≡ false → 1 ≤ b) → readGroups (suc k) isFirst (b ∷ bs) ≡ Value b 1
 unfolding readGroups
 read-last k true b bs h p = rw (lt-ltb b 128 h, and-false)
 read-last k false b bs h p = let q : 1 ≤ b = p refl in rw (lt-ltb b 128 h, ne-eqb b 0 (λ e. omega arith))
-
--- after another byte a byte 0 is rejected
-pub read-zero : (k : ℕ) (bs : List ℕ) → readGroups (suc k) false (0 ∷ bs) ≡ Rejected 6
-unfolding readGroups
-read-zero k bs = refl
 
 -- any other byte has seven bits of a number that goes on
 pub read-more :

@@ -23,6 +23,11 @@ abbrev pub Passing : List Bool → Type 0
 Passing [] = Unit {0}
 Passing (b ∷ bs) = (b ≡ true) × Passing bs
 
+-- the proofs of several tests, one after the other and `tt` last
+infixr 3 _also_
+abbrev pub _also_ : {A B : Type 0} → A → B → A × B
+a also b = (a, b)
+
 pub all-pass : (a : Bool) (bs : List Bool) → conjunction a bs ≡ true → Passing (a ∷ bs)
 all-pass a [] e = (e, tt)
 all-pass a (b ∷ bs) e =

@@ -10,7 +10,7 @@ use Rattle.model.specs.Tests.{allBelow}
 use Rattle.model.specs.Members.{size}
 use Rattle.model.specs.Layout.{shardsOf, place, headWord, sequencer, installed, members, part}
 use Rattle.model.specs.WellFormed.{isPart, isSequencer, allDiffer, isHeadOf, isConfigurationOf, isShard, wellFormed}
-use Rattle.model.proofs.Tests.{both, all-pass, pass-all, all-below, below-all}
+use Rattle.model.proofs.Tests.{both, _also_, all-pass, pass-all, all-below, below-all}
 use Rattle.model.proofs.Places.{length-of-shards}
 
 -- the head words of shard z
@@ -50,9 +50,9 @@ differ-all Z q f =
 -- ---- a shard
 
 module _ (w : List ℕ) (Z z : ℕ) where
-  -- the replicas of configuration j
-  isReplicasOf : ℕ → ℕ → Bool
-  isReplicasOf j k = isPart Z j (ltb k (size (members w z j))) (part w (place z j k))
+  -- replica k of configuration j
+  isPartOf : ℕ → ℕ → Bool
+  isPartOf j k = isPart Z j (ltb k (size (members w z j))) (part w (place z j k))
 
   isRest : ℕ → Bool
   isRest i = eqb (headWord w z (18 + i)) 0
@@ -60,11 +60,11 @@ module _ (w : List ℕ) (Z z : ℕ) where
   tests : List Bool
   tests = leb 1 (installed w z) ∷ leb (installed w z) 8 ∷ allBelow 8 (isConfigurationOf w Z z) ∷ allBelow 46 isRest ∷ []
 
-  shard-configuration : isShard w Z z ≡ true → (j : ℕ) → j < 8 → (isHeadOf w z j ≡ true) × (allBelow 4 (isReplicasOf j) ≡ true)
-  unfolding isShard isConfigurationOf isReplicasOf isRest tests
+  shard-configuration : isShard w Z z ≡ true → (j : ℕ) → j < 8 → (isHeadOf w z j ≡ true) × (allBelow 4 (isPartOf j) ≡ true)
+  unfolding isShard isConfigurationOf isPartOf isRest tests
   shard-configuration e j h =
       let p = all-pass (isSequencer Z z (sequencer w z)) tests e in
-      both (isHeadOf w z j) (allBelow 4 (isReplicasOf j)) .0 (all-below 8 (isConfigurationOf w Z z) (p .1 .1 .1 .0) j h)
+      both (isHeadOf w z j) (allBelow 4 (isPartOf j)) .0 (all-below 8 (isConfigurationOf w Z z) (p .1 .1 .1 .0) j h)
 
   shard-head : isShard w Z z ≡ true → Head Z w z
   unfolding isShard isRest tests
@@ -78,30 +78,25 @@ module _ (w : List ℕ) (Z z : ℕ) where
         rest = λ i h. eqb-true (headWord w z (18 + i)) 0 (all-below 46 isRest (p .1 .1 .1 .1 .0) i h);
       }
 
-  shard-part : isShard w Z z ≡ true → (j k : ℕ) → j < 8 → k < 4 → isReplicasOf j k ≡ true
-  shard-part e j k hj hk = all-below 4 (isReplicasOf j) (shard-configuration e j hj .1) k hk
+  shard-part : isShard w Z z ≡ true → (j k : ℕ) → j < 8 → k < 4 → isPartOf j k ≡ true
+  shard-part e j k hj hk = all-below 4 (isPartOf j) (shard-configuration e j hj .1) k hk
 
-  head-shard : Head Z w z → ((j k : ℕ) → j < 8 → k < 4 → isReplicasOf j k ≡ true) → isShard w Z z ≡ true
-  unfolding isShard isConfigurationOf isReplicasOf isRest tests
+  head-configuration : (j : ℕ) → isHeadOf w z j ≡ true → ((k : ℕ) → k < 4 → isPartOf j k ≡ true) → isConfigurationOf w Z z j ≡ true
+  unfolding isConfigurationOf isPartOf
+  head-configuration j e g = both (isHeadOf w z j) (allBelow 4 (isPartOf j)) .1 (e, below-all 4 (isPartOf j) g)
+
+  head-shard : Head Z w z → ((j k : ℕ) → j < 8 → k < 4 → isPartOf j k ≡ true) → isShard w Z z ≡ true
+  unfolding isShard isRest tests
   head-shard f g =
-      pass-all (isSequencer Z z (sequencer w z)) tests (
-        f .sequenced,
-        (
-          le-leb 1 (installed w z) (f .least),
-          (
-            le-leb (installed w z) 8 (f .most),
-            (
-              below-all 8 (isConfigurationOf w Z z) (λ j hj. both (isHeadOf w z j) (allBelow 4 (isReplicasOf j)) .1 (f .configured j hj, below-all 4 (isReplicasOf j) (λ k hk. g j k hj hk))),
-              (below-all 46 isRest (λ i h. eq-eqb (headWord w z (18 + i)) 0 (f .rest i h)), tt),
-            ),
-          ),
-        ),
-      )
+      pass-all (isSequencer Z z (sequencer w z)) tests
+      (f .sequenced also le-leb 1 (installed w z) (f .least) also le-leb (installed w z) 8 (f .most)
+      also below-all 8 (isConfigurationOf w Z z) (λ j hj. head-configuration j (f .configured j hj) (λ k hk. g j k hj hk))
+      also below-all 46 isRest (λ i h. eq-eqb (headWord w z (18 + i)) 0 (f .rest i h)) also tt)
 
 -- ---- a whole state
 
 pub well-formed : (w : List ℕ) (Z : ℕ) → shardsOf (length w) ≡ Z → 2 ≤ Z → wellFormed w ≡ true → WellFormed Z w
-unfolding wellFormed isReplicasOf
+unfolding wellFormed isPartOf
 well-formed w Z c h e =
     let t = both (allBelow Z (isShard w Z)) (allDiffer Z (sequencer w)) .0 (rw c at e) in
     let s : (z : ℕ) → z < Z → isShard w Z z ≡ true = all-below Z (isShard w Z) (t .0) in
@@ -114,7 +109,7 @@ well-formed w Z c h e =
     }
 
 pub is-well-formed : {Z : ℕ} {w : List ℕ} → WellFormed Z w → wellFormed w ≡ true
-unfolding wellFormed isReplicasOf
+unfolding wellFormed isPartOf
 is-well-formed {Z} {w} f =
     rw (f .shards)
     (both (allBelow Z (isShard w Z)) (allDiffer Z (sequencer w)) .1 (

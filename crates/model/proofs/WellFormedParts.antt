@@ -11,7 +11,7 @@ use Rattle.model.specs.Tests.{allOf, same}
 use Rattle.model.specs.Entries.{isEntry}
 use Rattle.model.specs.Replicas.{Replica, replicaWords, readReplica, unused, isPending}
 use Rattle.model.specs.WellFormed.{isReplica, isUnused, isPart}
-use Rattle.model.proofs.Tests.{both, all-pass, pass-all}
+use Rattle.model.proofs.Tests.{both, _also_, all-pass, pass-all}
 use Rattle.model.proofs.Parts.{read-words}
 
 -- ---- lists that are the same, and tests of every element
@@ -87,29 +87,18 @@ module _ (Z j : ℕ) (r : Replica) where
             (eqb-true (length (r .history)) 0 (t .0), leb-true 1 j (t .1));
       }
 
+  still : Proper Z j r → isPending r ≡ true → waiting ≡ true
+  unfolding waiting
+  still p d =
+      both (eqb (length (r .history)) 0) (leb 1 j) .1 (eq-eqb (length (r .history)) 0 (p .waits d .0), le-leb 1 j (p .waits d .1))
+
   pub is-proper : Proper Z j r → isReplica Z j r ≡ true
   unfolding isReplica waiting tests
   is-proper p =
-      pass-all (leb 1 (r .mode)) tests (
-        le-leb 1 (r .mode) (p .mode-least),
-        (
-          le-leb (r .mode) 3 (p .mode-most),
-          (
-            le-leb (length (r .history)) 56 (p .few),
-            (
-              le-leb (r .stable) (length (r .history)) (p .stable-most),
-              (
-                p .entries,
-                (
-                  implies (isPending r) waiting (λ d.
-                      both (eqb (length (r .history)) 0) (leb 1 j) .1 (eq-eqb (length (r .history)) 0 (p .waits d .0), le-leb 1 j (p .waits d .1))),
-                  tt,
-                ),
-              ),
-            ),
-          ),
-        ),
-      )
+      pass-all (leb 1 (r .mode)) tests
+      (le-leb 1 (r .mode) (p .mode-least) also le-leb (r .mode) 3 (p .mode-most) also le-leb (length (r .history)) 56 (p .few)
+      also le-leb (r .stable) (length (r .history)) (p .stable-most) also p .entries also implies (isPending r) waiting (still p)
+      also tt)
 
 -- a replica of no member
 pub record Vacant (r : Replica) : Type 0 where

@@ -18,7 +18,8 @@ use Rattle.model.specs.Adopt.{adoptChecks, adoptEffect}
 use Rattle.model.specs.Learn.{alike, allAlike, learnChecks, learnEffect}
 use Rattle.model.specs.Wedge.{wedgeChecks, wedgeEffect}
 use Rattle.model.specs.Inherit.{source, isSource, inheritChecks, inheritEffect}
-use Rattle.model.proofs.Tests.{both, all-below}
+use Rattle.model.proofs.Tests.{both}
+use Rattle.model.proofs.Alike.{every-alike, alike-long}
 use Rattle.model.proofs.Places.{replica-place}
 use Rattle.model.proofs.Members.{number-below}
 use Rattle.model.proofs.Checks.{AllPass}
@@ -27,11 +28,6 @@ use Rattle.model.proofs.WellFormed.{WellFormed}
 use Rattle.model.proofs.WellFormedMembers.{orderer-is-member, member-proper}
 use Rattle.model.proofs.WellFormedPut.{put-keeps}
 use Rattle.model.proofs.ProperReplicas.{added-proper, adopted-proper, learned-proper, wedged-proper, inherited-proper}
-
--- histories that are alike as far as n are n long
-long : (n : ℕ) (f g : List ℕ) → alike n f g ≡ true → n ≤ length g
-unfolding alike
-long n f g e = leb-true n (length g) (both (leb n (length g)) (allBelow n (λ p. eqb (getD g p 0) (getD f p 0))) .0 e .0)
 
 module _ {Z : ℕ} {w : List ℕ} (f : WellFormed Z w) {z j : ℕ} (hz : z < Z) (hj : j < 8) where
   -- a member's replica is written anew
@@ -60,12 +56,11 @@ module _ {Z : ℕ} {w : List ℕ} (f : WellFormed Z w) {z j : ℕ} (hz : z < Z) 
   -- the acting host's history is among those that are alike
   learn-long : (h n : ℕ) (l : List ℕ) → hasMember (members w z j) h ≡ true → allAlike w z j n l ≡ true
       → n ≤ length (replicaOf w (configuration w z j) h .history)
-  unfolding allAlike replicaOf
+  unfolding replicaOf
   learn-long h n l e a =
       rw (replica-place w z j h)
-      (long n l (replicaAt w (place z j (replicaNumber (members w z j) h)) .history)
-      (all-below (size (members w z j)) (λ k. alike n l (replicaAt w (place z j k) .history)) a (replicaNumber (members w z j) h)
-      (number-below (members w z j) h e)))
+      (alike-long n l (replicaAt w (place z j (replicaNumber (members w z j) h)) .history)
+      (every-alike w z j n l a (replicaNumber (members w z j) h) (number-below (members w z j) h e)))
 
   pub learn-keeps : (h n : ℕ) → AllPass (learnChecks w z j h n) → WellFormed Z (learnEffect w z j h n)
   unfolding learnChecks learnEffect

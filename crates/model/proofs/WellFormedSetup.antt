@@ -14,7 +14,8 @@ use Rattle.model.specs.Members.{size, isConfiguration}
 use Rattle.model.specs.Replicas.{replicaWords, fresh, unused}
 use Rattle.model.specs.Layout.{shardsOf, isStateLength, place, isInstalled, members, part}
 use Rattle.model.specs.WellFormed.{isPart, isSequencer, allDiffer, isHeadOf, wellFormed}
-use Rattle.model.specs.Setup.{planSequencer, planMembers, planOrderer, isPlannedShard, isPlan, setupRejection, initialReplica, initialState, afterSetup}
+use Rattle.model.specs.Setup.{planSequencer, planMembers, planOrderer, isPlannedShard, isPlan}
+use Rattle.model.specs.Setup.{setupRejection, initialReplica, initialState, afterSetup}
 use Rattle.model.proofs.Tests.{both, all-pass, all-below}
 use Rattle.model.proofs.Places.{length-of-shards}
 use Rattle.model.proofs.Checks.{passed}
@@ -22,7 +23,8 @@ use Rattle.model.proofs.WellFormedParts.{is-proper, replica-part, unuse
 use Rattle.model.proofs.WellFormed.{Head, WellFormed, is-well-formed, all-differ}
 use Rattle.model.proofs.WellFormedMembers.{configured, size-none}
 use Rattle.model.proofs.ProperReplicas.{fresh-proper}
-use Rattle.model.proofs.InitialState.{initial-length, initial-part, initial-sequencer, initial-installed, initial-members, initial-orderer, initial-members-later, initial-orderer-later, initial-rest}
+use Rattle.model.proofs.InitialState.{initial-length, initial-part, initial-sequencer, initial-installed, initial-members, initial-orderer}
+use Rattle.model.proofs.InitialState.{initial-members-later, initial-orderer-later, initial-rest}
 
 -- ---- a plan
 
@@ -31,7 +33,7 @@ pub record Planned (Z : ℕ) (p : List ℕ) : Type 0 where
   pub configuration : (z : ℕ) → z < Z → isConfiguration (planMembers p z) (planOrderer p z) ≡ true
   pub differ : (a b : ℕ) → a < Z → b < a → planSequencer p b ≡ planSequencer p a → ⊥
 
-planned : (Z : ℕ) (p : List ℕ) → isPlan Z p ≡ true → Planned Z p
+pub planned : (Z : ℕ) (p : List ℕ) → isPlan Z p ≡ true → Planned Z p
 unfolding isPlan isPlannedShard
 planned Z p e =
     let t = all-pass (eqb (length p) (3 * Z)) (allBelow Z (isPlannedShard Z p) ∷ allDiffer Z (planSequencer p) ∷ []) e in

@@ -1,4 +1,5 @@
--- States stay well-formed, as a claim: a run tests well-formedness once, before its first step. It is proved in `proofs/StaysWellFormed.antt` (`stays-well-formed`).
+-- States stay well-formed, as one claim, so a run has to test its state only before its first step. It is proved in `proofs/StaysWellFormed.antt`
+-- (`stays-well-formed`).
 use mathlib.Core.Path.{_≡_}
 use mathlib.Core.Bool.{true}
 use mathlib.Core.List.{List}
