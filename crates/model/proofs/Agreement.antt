@@ -9,7 +9,7 @@ use mathlib.Core.Logic.{inr}
 use lib.Dec.{leb}
 use borrow.Author.Tests.{leb-true, leb-false}
 use Rattle.model.specs.Replicas.{stablePrefix}
-use Rattle.model.specs.Prefixes.{Begins, Share}
+use Rattle.model.specs.Prefixes.{Share}
 use Rattle.model.proofs.Prefixes.{share-both, share-swap, begins-nil}
 use Rattle.model.proofs.Histories.{Once, Offered, once-prefix, offered-prefix}
 use Rattle.model.proofs.Views.{View, Inv}

@@ -2,13 +2,12 @@
 -- Assumes nothing.
 use Prim.Native.Nat.{ℕ, _≤_, _<_}
 use mathlib.Core.Path.{_≡_, sym, ap, _∙_}
-use mathlib.Core.Bool.{Bool, true, _&&_}
+use mathlib.Core.Bool.{true}
 use mathlib.Core.List.{List}
 use lib.Dec.{leb, eqb}
 use lib.ListN.{length, take, getD}
 use lib.Seq.{length-take-le, ext-getD, getD-take}
 use borrow.Author.Tests.{leb-true, eqb-true}
-use Rattle.model.specs.Tests.{allBelow}
 use Rattle.model.specs.Members.{size}
 use Rattle.model.specs.Layout.{place, members, replicaAt}
 use Rattle.model.specs.Learn.{alike, allAlike}

@@ -1,15 +1,14 @@
 -- Install as a move of a view: a configuration that was unused becomes pending, and the invariant stays.
 -- Assumes nothing.
-use Prim.Native.Nat.{ℕ, zero, suc, _≤_, _<_}
+use Prim.Native.Nat.{ℕ, suc, _≤_, _<_}
 use native.Mathlib.Omega.{arith}
 use mathlib.Core.Path.{_≡_, refl, sym, ap, _∙_}
 use mathlib.Core.List.{List, []}
-use lib.Dec.{lit<, lit≤}
+use lib.Dec.{lit≤}
 use lib.ListN.{length}
 use Rattle.model.specs.Replicas.{Replica, stablePrefix, pending, unused}
 use Rattle.model.specs.Prefixes.{Begins}
-use Rattle.model.proofs.Prefixes.{begins-nil, begins-refl}
-use Rattle.model.proofs.Histories.{Once, Offered, once-nil, offered-nil}
+use Rattle.model.proofs.Prefixes.{begins-refl}
 use Rattle.model.proofs.Views.{View, Root, Stem, Inv}
 
 -- what is seen at configuration a, replica b: as it was, or a replica of the configuration j that was unused, and is pending or unused

@@ -1,13 +1,9 @@
 -- What a change of a state has to show besides well-formedness: the invariant of every shard, that nothing goes back, and the issues.
 -- Assumes nothing.
-use Prim.Native.Nat.{ℕ, suc, _+_, _≤_, _<_}
-use native.Mathlib.Nat.{lt-of-lt-of-le}
-use mathlib.Core.Path.{_≡_, refl, sym, ap, subst, _∙_}
-use mathlib.Core.Bool.{true}
+use Prim.Native.Nat.{ℕ, suc, _+_, _<_}
+use mathlib.Core.Path.{_≡_, refl, sym, subst}
 use mathlib.Core.List.{List}
-use Rattle.model.specs.Entries.{issue, firstIssue}
 use Rattle.model.specs.Layout.{sequencer, installed, members, orderer}
-use Rattle.model.specs.WellFormed.{wellFormed}
 use Rattle.model.specs.StableHistory.{stableHistory}
 use Rattle.model.specs.Prefixes.{Begins}
 use Rattle.model.specs.OneList.{shards}
@@ -16,7 +12,7 @@ use Rattle.model.proofs.Histories.{Wider, offered-wider}
 use Rattle.model.proofs.Views.{View, Inv}
 use Rattle.model.proofs.StateViews.{view, stable-grows}
 use Rattle.model.proofs.Issues.{first-stays, issue-not-zero}
-use Rattle.model.proofs.Forward.{Forward, forward-shards}
+use Rattle.model.proofs.Forward.{Forward}
 use Rattle.model.proofs.WellFormed.{WellFormed, well-formed}
 use Rattle.model.proofs.Safe.{Safe, Issued}
 

@@ -5,16 +5,15 @@ use native.Mathlib.Nat.{le-of-eq, lt-of-lt-of-le}
 use native.Mathlib.Omega.{arith}
 use native.Mathlib.Decide.{ℕ-discrete, decLt}
 use mathlib.Core.Path.{_≡_, refl, sym, ap, subst, _∙_}
-use mathlib.Core.Bool.{Bool, true, false, not, _&&_}
+use mathlib.Core.Bool.{true}
 use mathlib.Core.List.{List, [], _∷_}
 use lib.Dec.{ltb, eqb, lit≤, lit<}
 use borrow.Author.Tests.{ltb-true, eqb-true, eq-eqb}
 use lib.ListN.{length, getD}
-use lib.Seq.{getD-take}
-use Rattle.model.specs.Members.{size, hasMember, replicaNumber, isConfiguration}
+use Rattle.model.specs.Members.{size, replicaNumber, isConfiguration}
 use Rattle.model.specs.Entries.{issue, isIssue, isIssueFor, issueIndex, issueShard, issueOrderer, issueMembers, names, firstIssue}
 use Rattle.model.specs.Replicas.{Replica, readReplica, stablePrefix, pending, unused}
-use Rattle.model.specs.Layout.{place, headWord, sequencer, installed, isInstalled, members, orderer, replicaAt}
+use Rattle.model.specs.Layout.{headWord, sequencer, installed, members, orderer, replicaAt}
 use Rattle.model.specs.Install.{issuer, issuedAt, isStableIssue, noneBefore, installChecks, installNext, installEffect}
 use Rattle.model.specs.StableHistory.{stableHistory}
 use Rattle.model.specs.Prefixes.{Begins}
@@ -31,7 +30,7 @@ use Rattle.model.proofs.InstallMove.{SeenNew, as-it-was, now-pending, s
 use Rattle.model.proofs.StateViews.{view, view-in, InView, inside, outside, in-view, stable-begins, stable-grows}
 use Rattle.model.proofs.Issues.{first-stays, first-at, none-before, issue-word, issue-not-zero}
 use Rattle.model.proofs.Forward.{Forward}
-use Rattle.model.proofs.WellFormed.{WellFormed, size-of}
+use Rattle.model.proofs.WellFormed.{size-of}
 use Rattle.model.proofs.WellFormedParts.{Vacant, part-vacant}
 use Rattle.model.proofs.WellFormedMembers.{configured}
 use Rattle.model.proofs.InstallNext.{next-length, next-other, next-installed, next-members, next-orderer, next-pending, next-parts}

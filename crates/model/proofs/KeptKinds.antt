@@ -1,19 +1,17 @@
 -- Add, adopt, learn, wedge and inherit on a safe state: each is a move of its shard's view.
 -- Assumes nothing.
-use Prim.Native.Nat.{ℕ, suc, _+_, _-_, _≤_, _<_}
-use native.Mathlib.Nat.{lt-of-lt-of-le, le-of-lt}
+use Prim.Native.Nat.{ℕ, suc, _-_, _≤_, _<_}
 use native.Mathlib.Omega.{arith}
-use mathlib.Core.Path.{_≡_, refl, sym, ap, subst, _∙_}
+use mathlib.Core.Path.{_≡_, refl, sym, ap, subst}
 use mathlib.Core.Bool.{Bool, true, false, not, _&&_}
 use mathlib.Core.List.{List, [], _∷_}
-use lib.Dec.{leb, ltb, eqb}
-use borrow.Author.Tests.{leb-true, ltb-true, eqb-true, eqb-false, not-true, eq-eqb}
+use lib.Dec.{ltb}
+use borrow.Author.Tests.{ltb-true, eqb-true, eqb-false, not-true}
 use lib.Arith.{lt-of-le-ne}
-use lib.ListN.{length, take, getD, length-append}
-use lib.Seq.{length-take-le, ext-getD, getD-take}
-use Rattle.model.specs.Tests.{contains, allBelow}
+use lib.ListN.{length, take, length-append}
+use Rattle.model.specs.Tests.{contains}
 use Rattle.model.specs.Members.{size, hasMember, replicaNumber}
-use Rattle.model.specs.Replicas.{Replica, readReplica, unused, isActive, isPending, isImmutable, added, adopted, learned, wedged, inherited}
+use Rattle.model.specs.Replicas.{Replica, unused, isActive, isPending, isImmutable, added, adopted, learned, wedged, inherited}
 use Rattle.model.specs.Layout.{place, part, isInstalled, members, orderer, putReplica, replicaAt}
 use Rattle.model.specs.Configuration.{configuration, replicaPlace, replicaOf}
 use Rattle.model.specs.Add.{ordererPlace, ordererReplica, addChecks, addEffect}
@@ -24,17 +22,15 @@ use Rattle.model.specs.Inherit.{source, isSource, inheritChecks, inherit
 use Rattle.model.specs.WellFormed.{isPart}
 use Rattle.model.specs.Prefixes.{Begins}
 use Rattle.model.specs.OneList.{shards}
-use Rattle.model.proofs.Tests.{both, all-below}
+use Rattle.model.proofs.Tests.{both}
 use Rattle.model.proofs.Members.{number-below}
 use Rattle.model.proofs.Checks.{AllPass}
 use Rattle.model.proofs.Parts.{short}
 use Rattle.model.proofs.Places.{replica-place}
 use Rattle.model.proofs.Histories.{Wider, wider-refl}
-use Rattle.model.proofs.Views.{Inv}
 use Rattle.model.proofs.Moves.{Move}
 use Rattle.model.proofs.KindMoves.{add-move, adopt-move, learn-move, wedge-move, inherit-move}
 use Rattle.model.proofs.StateViews.{view, view-in, InView, inside, outside, in-view}
-use Rattle.model.proofs.WellFormed.{WellFormed}
 use Rattle.model.proofs.WellFormedParts.{part-vacant}
 use Rattle.model.proofs.WellFormedMembers.{orderer-is-member, member-proper}
 use Rattle.model.proofs.SeatedReplica.{number-small, member-view}

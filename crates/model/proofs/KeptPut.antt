@@ -1,13 +1,13 @@
 -- One replica of a safe state is replaced by a move of its shard's view.
 -- Assumes nothing.
-use Prim.Native.Nat.{ℕ, suc, _+_, _*_, _≤_, _<_}
-use native.Mathlib.Nat.{le-refl, le-of-eq, lt-of-lt-of-le}
+use Prim.Native.Nat.{ℕ, _*_, _≤_, _<_}
+use native.Mathlib.Nat.{le-of-eq, lt-of-lt-of-le}
 use native.Mathlib.Decide.{ℕ-discrete}
-use mathlib.Core.Path.{_≡_, refl, sym, subst, _∙_}
+use mathlib.Core.Path.{_≡_, sym, subst, _∙_}
 use mathlib.Core.List.{List}
 use lib.ListN.{length}
 use Rattle.model.specs.Replicas.{Replica, stablePrefix}
-use Rattle.model.specs.Layout.{place, installed, replicaAt, putReplica}
+use Rattle.model.specs.Layout.{place, installed, putReplica}
 use Rattle.model.specs.Prefixes.{Begins}
 use Rattle.model.specs.OneList.{shards}
 use Rattle.model.proofs.Parts.{put-length, replica-put, replica-put-other}
@@ -19,7 +19,7 @@ use Rattle.model.proofs.Moves.{Seen, here, there, Moved, Move, keeps, m
 use Rattle.model.proofs.StateViews.{view, view-in, InView, inside, outside, in-view}
 use Rattle.model.proofs.Forward.{Forward}
 use Rattle.model.proofs.WellFormed.{size-of}
-use Rattle.model.proofs.Safe.{Safe, Issued}
+use Rattle.model.proofs.Safe.{Safe}
 use Rattle.model.proofs.Kept.{Kept, formed, inv-same, issued-stays}
 
 module _ {w : List ℕ} {offers offers′ : ℕ → List ℕ} (x : Safe w offers) {z j k : ℕ} (hz : z < shards w) (hj : j < 8) (hk : k < 4)

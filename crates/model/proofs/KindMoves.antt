@@ -9,15 +9,15 @@ use mathlib.Core.List.{List, [], _∷_, _++_}
 use mathlib.Core.Logic.{_⊎_, inl, inr}
 use lib.Dec.{leb, lit≤}
 use borrow.Author.Tests.{leb-true, leb-false}
-use lib.ListN.{length, take, length-append, length-take}
+use lib.ListN.{length, take, length-append}
 use lib.Seq.{take-append-le, length-take-le, take-nil}
 use Rattle.model.specs.Tests.{contains}
 use Rattle.model.specs.Replicas.{Replica, stablePrefix, added, adopted, learned, wedged, inherited}
 use Rattle.model.specs.Prefixes.{Begins}
 use Rattle.model.proofs.Prefixes.{begins-le, begins-refl, begins-trans, begins-append, begins-take-take, begins-same, begins-nil}
-use Rattle.model.proofs.Histories.{Once, Offered, Wider, once-append, offered-append, offered-wider, offered-prefix}
+use Rattle.model.proofs.Histories.{Wider, once-append, offered-append, offered-wider}
 use Rattle.model.proofs.Views.{View, Root, Stem, Inv}
-use Rattle.model.proofs.Moves.{Move, prefix-begins}
+use Rattle.model.proofs.Moves.{Move}
 
 -- an active replica is no immutable one
 active-not : {m : ℕ} → m ≡ 2 → m ≡ 3 → ⊥

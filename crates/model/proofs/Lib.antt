@@ -52,3 +52,6 @@ pub mod OneList
 pub mod Numbers
 pub mod Several
 pub mod RoundTrip
+-- The marked cases
+pub mod Answers
+pub mod Marked

@@ -3,7 +3,7 @@
 use Prim.Native.Nat.{ℕ, zero, suc, _+_, _-_, _≤_, zero-le}
 use native.Mathlib.Nat.{add-zero, add-suc}
 use native.Mathlib.Omega.{arith}
-use mathlib.Core.Path.{_≡_, refl, sym, ap, _∙_}
+use mathlib.Core.Path.{_≡_, refl, ap, _∙_}
 use mathlib.Core.Bool.{cond}
 use mathlib.Core.List.{List, [], _∷_}
 use Rattle.model.specs.declared.step.Step.{Step}
@@ -14,7 +14,7 @@ use Rattle.model.proofs.Trace.{Run, Next, stepped, rested, next}
 use Rattle.model.proofs.ReferenceShard.{accepted-offer}
 use Rattle.model.proofs.Forward.{Forward, forward-refl, forward-trans, forward-shards}
 use Rattle.model.proofs.Safe.{Safe, offersAfter}
-use Rattle.model.proofs.SafeStep.{SafeStep, safe-step}
+use Rattle.model.proofs.SafeStep.{safe-step}
 
 -- what is on offer in each shard at moment n, whatever was accepted before
 unfoldable pub offersAt : List Moment → (ℕ → ℕ → List ℕ) → ℕ → ℕ → List ℕ

@@ -1,34 +1,32 @@
 -- The one list: the claim of `specs/OneList.antt`, proved of every run.
 -- Assumes nothing.
 use Prim.Native.Nat.{ℕ, zero, suc, _+_, _-_, _≤_, _<_, zero-le}
-use native.Mathlib.Nat.{le-refl, le-trans, le-of-lt, lt-of-lt-of-le}
+use native.Mathlib.Nat.{le-refl, le-of-lt, lt-of-lt-of-le}
 use native.Mathlib.Omega.{arith}
 use mathlib.Core.Path.{_≡_, refl, sym, ap, _∙_}
 use mathlib.Core.Bool.{Bool, true, false}
-use mathlib.Core.List.{List, [], _∷_, _++_, append-nil}
+use mathlib.Core.List.{List, [], _++_}
 use mathlib.Core.Logic.{_⊎_, inl, inr}
-use lib.Dec.{leb, ltb}
-use borrow.Author.Tests.{leb-true, leb-false, ltb-true}
+use lib.Dec.{leb}
+use borrow.Author.Tests.{leb-true, leb-false}
 use lib.ListN.{length, take, drop}
 use lib.Seq.{take-add}
-use Rattle.model.specs.Members.{hasMember, replicaNumber}
+use Rattle.model.specs.Members.{replicaNumber}
 use Rattle.model.specs.Replicas.{stablePrefix}
-use Rattle.model.specs.Layout.{installed, members, sequencer}
-use Rattle.model.specs.Configuration.{configuration, replicaOf, replicaPlace}
-use Rattle.model.specs.Setup.{setupRejection, afterSetup}
+use Rattle.model.specs.Layout.{members}
+use Rattle.model.specs.Setup.{afterSetup}
 use Rattle.model.specs.StableHistory.{stableHistory}
 use Rattle.model.specs.Prefixes.{Begins, Share}
-use Rattle.model.specs.Runs.{Call, Moment, played, stateAt}
-use Rattle.model.specs.Reference.{Reference, MayAcceptAll, none, atSetup, beforeAccepting, referenceAt, pointAt, acceptAll, fedAt}
+use Rattle.model.specs.Runs.{Moment, stateAt}
+use Rattle.model.specs.Reference.{MayAcceptAll, none, atSetup, beforeAccepting, referenceAt, pointAt, acceptAll}
 use Rattle.model.specs.OneList.{shards, Seated, stableOf, Held, OneList, OneListClaim}
-use Rattle.model.proofs.Prefixes.{begins-le, begins-same, begins-trans, begins-rest, begins-empty, share-both, share-prefix, share-swap}
-use Rattle.model.proofs.Histories.{Once, Offered, none-offered}
+use Rattle.model.proofs.Prefixes.{begins-le, begins-rest, begins-empty, share-both, share-prefix, share-swap}
+use Rattle.model.proofs.Histories.{none-offered}
 use Rattle.model.proofs.Views.{Inv}
-use Rattle.model.proofs.Agreement.{agreed}
-use Rattle.model.proofs.StateViews.{view, view-in, stable-begins, stable-once, stable-offered, stable-grows}
+use Rattle.model.proofs.StateViews.{view, stable-begins, stable-once, stable-offered, stable-grows}
 use Rattle.model.proofs.Forward.{Forward, forward-shards}
 use Rattle.model.proofs.Trace.{Run, played-run}
-use Rattle.model.proofs.ReferenceShard.{accepted-history, accepted-offer, fed-history, may-accept}
+use Rattle.model.proofs.ReferenceShard.{accepted-history, fed-history, may-accept}
 use Rattle.model.proofs.Safe.{Safe}
 use Rattle.model.proofs.SafeSetup.{safe-setup}
 use Rattle.model.proofs.Moments.{offersAt, safe-at, forward-to, shards-at}

@@ -1,15 +1,13 @@
 -- Laws of the reference shard: what it holds and has on offer after accepting several entries, and when it may accept them.
 -- Assumes nothing.
-use Prim.Native.Nat.{ℕ, zero, suc, _+_, _<_, _≤_}
+use Prim.Native.Nat.{ℕ, zero, suc, _+_, _<_}
 use native.Mathlib.Omega.{arith}
-use mathlib.Core.Path.{_≡_, refl, sym, ap, _∙_}
-use mathlib.Core.Bool.{Bool, true, false, cond}
+use mathlib.Core.Path.{_≡_, refl, sym, _∙_}
 use mathlib.Core.List.{List, [], _∷_, _++_, append-assoc, append-nil}
-use lib.ListN.{length, take, length-append}
-use lib.Seq.{getD-append-seam, take-append-seam, append-snoc}
-use Rattle.model.specs.Tests.{contains}
+use lib.ListN.{length, length-append}
+use lib.Seq.{getD-append-seam, take-append-seam}
 use Rattle.model.specs.Runs.{Moment}
-use Rattle.model.specs.Reference.{Reference, isAddIn, fed, fedAt, accept, acceptAll, MayAccept, MayAcceptAll, none, next}
+use Rattle.model.specs.Reference.{Reference, fed, fedAt, accept, acceptAll, MayAcceptAll, none, next}
 use Rattle.model.proofs.Histories.{Once, Offered}
 
 pub accepted-history : (es : List ℕ) (r : Reference) → acceptAll es r .history ≡ r .history ++ es

@@ -2,27 +2,27 @@
 -- Assumes nothing.
 use Prim.Native.Nat.{ℕ, suc, _+_, _*_, _≤_, _<_}
 use native.Mathlib.Omega.{arith}
-use mathlib.Core.Path.{_≡_, refl, sym, ap, _∙_}
+use mathlib.Core.Path.{_≡_, refl, ap}
 use mathlib.Core.Bool.{Bool, true, false, cond}
 use mathlib.Core.List.{List, []}
 use lib.Dec.{ltb, lit≤, lit<}
 use borrow.Author.Tests.{ltb-true}
 use lib.ListN.{length}
 use Rattle.model.specs.Members.{size}
-use Rattle.model.specs.Replicas.{Replica, readReplica, replicaWords, stablePrefix, fresh, unused}
-use Rattle.model.specs.Layout.{shardsOf, installed, replicaAt}
+use Rattle.model.specs.Replicas.{Replica, stablePrefix, fresh, unused}
+use Rattle.model.specs.Layout.{shardsOf, replicaAt}
 use Rattle.model.specs.Setup.{setupRejection, afterSetup, initialReplica, initialState, planMembers}
 use Rattle.model.specs.OneList.{shards}
 use Rattle.model.proofs.Parts.{read-words}
 use Rattle.model.proofs.Prefixes.{begins-nil}
 use Rattle.model.proofs.Histories.{once-nil, offered-nil}
 use Rattle.model.proofs.Views.{View, Inv}
-use Rattle.model.proofs.StateViews.{view, view-in, InView, inside, outside, in-view}
+use Rattle.model.proofs.StateViews.{view, InView, inside, outside, in-view}
 use Rattle.model.proofs.InitialState.{initial-part, initial-installed, initial-members}
 use Rattle.model.proofs.WellFormed.{WellFormed, is-well-formed}
 use Rattle.model.proofs.WellFormedMembers.{size-few}
 use Rattle.model.proofs.WellFormedSetup.{after-setup, setup-formed}
-use Rattle.model.proofs.Safe.{Safe, Issued}
+use Rattle.model.proofs.Safe.{Safe}
 
 -- a replica of configuration j that is new: fresh in the first configuration, or unused
 data New (j : ℕ) (r : Replica) : Type 0 where

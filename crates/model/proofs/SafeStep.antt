@@ -1,9 +1,9 @@
 -- An accepted step keeps a state safe, and goes forward.
 -- Assumes nothing.
-use Prim.Native.Nat.{ℕ, suc, _+_, _≤_, _<_}
-use mathlib.Core.Path.{_≡_, refl, sym, ap, _∙_}
-use mathlib.Core.Bool.{Bool, true, false, cond, _&&_, and-false}
-use mathlib.Core.List.{List, [], _∷_}
+use Prim.Native.Nat.{ℕ}
+use mathlib.Core.Path.{_≡_, refl, sym}
+use mathlib.Core.Bool.{Bool, true, false, cond, _&&_}
+use mathlib.Core.List.{List, _∷_}
 use lib.Dec.{leb, eqb}
 use borrow.Author.Tests.{eq-eqb}
 use Rattle.model.specs.declared.kind.Kind.{Kind}
@@ -11,8 +11,7 @@ use Rattle.model.specs.declared.kind.Kind.the-variants.{Add, Adopt, Lear
 use Rattle.model.specs.declared.step.Step.{Step}
 use Rattle.model.specs.Tests.{contains}
 use Rattle.model.specs.Kinds.{kindOf}
-use Rattle.model.specs.Layout.{shardsOf, installed}
-use Rattle.model.specs.Steps.{shardOf, configurationOf, kindChecks, kindEffect, rejection, effect}
+use Rattle.model.specs.Steps.{shardOf, kindChecks, kindEffect, rejection, effect}
 use Rattle.model.specs.Reference.{isAddIn}
 use Rattle.model.specs.OneList.{shards}
 use Rattle.model.proofs.Checks.{Accepted, accepted}

@@ -5,11 +5,9 @@ use native.Mathlib.Nat.{lt-of-lt-of-le}
 use mathlib.Core.Path.{_≡_, refl, sym, ap, _∙_}
 use mathlib.Core.Bool.{true}
 use mathlib.Core.List.{List}
-use lib.ListN.{length}
 use Rattle.model.specs.Members.{hasMember, replicaNumber}
-use Rattle.model.specs.Replicas.{Replica}
-use Rattle.model.specs.Layout.{place, members, replicaAt}
-use Rattle.model.specs.Configuration.{configuration, replicaPlace, replicaOf}
+use Rattle.model.specs.Layout.{members, replicaAt}
+use Rattle.model.specs.Configuration.{configuration, replicaOf}
 use Rattle.model.specs.WellFormed.{wellFormed}
 use Rattle.model.specs.OneList.{shards, Seated}
 use Rattle.model.proofs.Members.{number-below}

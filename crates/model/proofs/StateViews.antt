@@ -4,17 +4,17 @@ use Prim.Native.Nat.{ℕ, zero, suc, _+_, _*_, _/_, _%_, _≤_, _<_}
 use native.Mathlib.Nat.{le-refl, le-of-lt, le-trans}
 use native.Mathlib.Omega.{arith}
 use mathlib.Core.Path.{_≡_, refl, sym, ap, _∙_}
-use mathlib.Core.Bool.{Bool, true, false, cond, _&&_, and-false}
+use mathlib.Core.Bool.{Bool, true, false, cond, _&&_}
 use mathlib.Core.List.{List, []}
 use mathlib.Core.Logic.{inr}
 use lib.Dec.{ltb}
-use borrow.Author.Tests.{lt-ltb, le-ltb, ltb-true, ltb-false}
+use borrow.Author.Tests.{lt-ltb, ltb-true, ltb-false}
 use lib.ListN.{length}
-use Rattle.model.specs.Replicas.{Replica, stablePrefix, unused}
+use Rattle.model.specs.Replicas.{stablePrefix, unused}
 use Rattle.model.specs.Layout.{place, replicaAt}
 use Rattle.model.specs.StableHistory.{longer, longestOf, stableHistory}
 use Rattle.model.specs.Prefixes.{Begins, Share}
-use Rattle.model.proofs.Prefixes.{begins-nil, begins-same, begins-trans, share-le}
+use Rattle.model.proofs.Prefixes.{begins-nil, begins-trans, share-le}
 use Rattle.model.proofs.Histories.{Once, Offered, once-nil, offered-nil}
 use Rattle.model.proofs.Views.{View, Inv}
 use Rattle.model.proofs.Agreement.{agreed, prefix-once, prefix-offered}

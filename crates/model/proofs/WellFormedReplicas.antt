@@ -4,18 +4,16 @@ use native.Mathlib.Omega.{arith}
 use mathlib.Core.Path.{_≡_}
 use mathlib.Core.Bool.{true}
 use mathlib.Core.List.{List}
-use lib.Dec.{leb, eqb}
-use lib.ListN.{length, getD}
-use borrow.Author.Tests.{leb-true, ltb-true}
-use Rattle.model.specs.Tests.{allBelow}
-use Rattle.model.specs.Members.{size, hasMember, replicaNumber}
+use lib.ListN.{length}
+use borrow.Author.Tests.{ltb-true}
+use Rattle.model.specs.Members.{hasMember, replicaNumber}
 use Rattle.model.specs.Entries.{isEntry}
 use Rattle.model.specs.Replicas.{Replica, isImmutable, added, adopted, learned, wedged, inherited}
 use Rattle.model.specs.Layout.{place, members, orderer, isInstalled, replicaAt, putReplica}
 use Rattle.model.specs.Configuration.{configuration, replicaPlace, replicaOf}
 use Rattle.model.specs.Add.{ordererPlace, ordererReplica, addChecks, addEffect}
 use Rattle.model.specs.Adopt.{adoptChecks, adoptEffect}
-use Rattle.model.specs.Learn.{alike, allAlike, learnChecks, learnEffect}
+use Rattle.model.specs.Learn.{allAlike, learnChecks, learnEffect}
 use Rattle.model.specs.Wedge.{wedgeChecks, wedgeEffect}
 use Rattle.model.specs.Inherit.{source, isSource, inheritChecks, inheritEffect}
 use Rattle.model.proofs.Tests.{both}

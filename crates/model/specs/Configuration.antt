@@ -1,6 +1,5 @@
 -- A configuration of a state as a record, and the replicas of its hosts.
 use Prim.Native.Nat.{ℕ, _+_, _*_}
-use mathlib.Core.Bool.{Bool}
 use mathlib.Core.List.{List}
 use Rattle.model.specs.declared.configuration.Configuration.{Configuration}
 use Rattle.model.specs.Members.{replicaNumber}

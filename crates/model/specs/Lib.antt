@@ -28,3 +28,4 @@ pub mod Reference
 pub mod OneList
 pub mod RoundTrip
 pub mod StaysWellFormed
+pub mod Marked

@@ -2,7 +2,7 @@
 use Prim.Native.Nat.{ℕ, zero, suc, _+_}
 use mathlib.Core.Bool.{Bool, true, false, cond}
 use mathlib.Core.List.{List, [], _∷_}
-use lib.ListN.{length, getD, drop}
+use lib.ListN.{getD, drop}
 use Rattle.model.specs.declared.Number.{Number}
 use Rattle.model.specs.declared.Number.the-variants.{Value, Rejected as NotNumber}
 use Rattle.model.specs.declared.Reading.{Reading}

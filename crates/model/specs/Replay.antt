@@ -1,6 +1,6 @@
 -- The log run, here replay (document 01, "Log and run": "The run takes state, log and a budget").
-use Prim.Native.Nat.{ℕ, suc, _+_}
-use mathlib.Core.Bool.{Bool, cond}
+use Prim.Native.Nat.{ℕ, _+_}
+use mathlib.Core.Bool.{cond}
 use mathlib.Core.List.{List, [], _∷_}
 use lib.Dec.{eqb}
 use lib.ListN.{length}
@@ -11,7 +11,7 @@ use Rattle.model.specs.Checks.{firstOf, _orElse_}
 use Rattle.model.specs.Layout.{isStateLength}
 use Rattle.model.specs.WellFormed.{wellFormed}
 use Rattle.model.specs.Steps.{rejection, after}
-use Rattle.model.specs.Log.{Log, readLog}
+use Rattle.model.specs.Log.{readLog}
 
 -- the state after several steps, each tried on what the one before left
 unfoldable pub afterAll : List ℕ → List Step → List ℕ

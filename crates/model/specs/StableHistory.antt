@@ -1,6 +1,6 @@
 -- A shard's stable history ("A zone's confirmed list is the longest confirmed part over all its seats, picked as the print below picks it").
 use Prim.Native.Nat.{ℕ, zero, suc}
-use mathlib.Core.Bool.{Bool, cond}
+use mathlib.Core.Bool.{cond}
 use mathlib.Core.List.{List, []}
 use lib.Dec.{ltb}
 use lib.ListN.{length}

@@ -1,6 +1,6 @@
 // The kind of a step, told from its number: the one match on kind numbers.
 ghost use mathlib.Core.Path.{_≡_};
-ghost use Rattle.model.specs.Kinds.{kindOf, usedNumbers};
+ghost use Rattle.model.specs.Kinds.{kindOf, isKept, isUnknown, usedNumbers};
 
 pub enum Kind {
     Add,
@@ -44,6 +44,38 @@ impl Kind {
             Kind::Inherit => 4,
             Kind::Kept => 0,
             Kind::Unknown => 0,
+        }
+    }
+
+    // Whether the kind is kept for later: rejection 3.
+    pub fn is_kept(self) -> bool
+        ensures { λ r. ⌜ r ≡ isKept self ⌝ }
+    {
+        match self {
+            Kind::Add => false,
+            Kind::Adopt => false,
+            Kind::Learn => false,
+            Kind::Wedge => false,
+            Kind::Install => false,
+            Kind::Inherit => false,
+            Kind::Kept => true,
+            Kind::Unknown => false,
+        }
+    }
+
+    // Whether the number is no kind's: rejection 4.
+    pub fn is_unknown(self) -> bool
+        ensures { λ r. ⌜ r ≡ isUnknown self ⌝ }
+    {
+        match self {
+            Kind::Add => false,
+            Kind::Adopt => false,
+            Kind::Learn => false,
+            Kind::Wedge => false,
+            Kind::Install => false,
+            Kind::Inherit => false,
+            Kind::Kept => false,
+            Kind::Unknown => true,
         }
     }
 }

@@ -1,3 +1,4 @@
+-- `model::configuration::Configuration::replica` meets its contract.
 use Prim.Native.Nat.{ℕ, _*_, _%_, _^_, _<_, _≤_}
 use native.Mathlib.Nat.{one-mul, mod-eq-of-lt, mod-lt, lt-of-lt-of-le, le-trans, le-of-lt}
 use native.Mathlib.Omega.{arith}
@@ -10,8 +11,6 @@ use Rattle.model.specs.Configuration.{replicaPlace}
 use borrow.Author.Needs.{needs}
 use Rattle.model.proofs.configuration.Configuration.replica.Statement.{statement}
 use Rattle.model.proofs.configuration.Configuration.replica.Tie as tie
-use Rattle.model.proofs.configuration.Configuration.replica.Reads as reads
-use Rattle.model.proofs.configuration.Configuration.replica.Lts as lts
 
 -- a host's bit is a power of two below 2 ^ 16
 bit : (h : ℕ) → h < 16 → 1 * 2 ^ h % 2 ^ 64 ≡ 2 ^ h
@@ -21,27 +20,21 @@ bit h l = rw one-mul (mod-eq-of-lt (lt-of-lt-of-le (pow-lt l) (lit≤ tt)))
 few : (m h : ℕ) → h < 16 → ones (m % (1 * 2 ^ h % 2 ^ 64)) ≤ 16
 few m h l = rw (bit h l) (le-trans (ones-le h (m % 2 ^ h) (mod-lt m (pow-pos h))) (le-of-lt l))
 
--- src/configuration.rt:34:53
 shl-below : tie.Need-shl-below
 shl-below c = search needs
 
--- src/configuration.rt:34:37
 rem-below : tie.Need-rem-below
 rem-below c = rw (bit (c .before .args .host) (c .before .pre .0)) (pow-pos (c .before .args .host))
 
--- src/configuration.rt:35:28
 cast-result : tie.Need-cast-result
 cast-result c = record { fits = omega (arith, few (c .before .args .self .members) (c .before .args .host) (c .before .pre .0)) }
 
--- src/configuration.rt:35:22
 mul-result : tie.Need-mul-result
 mul-result c = record { fits = omega (arith, few (c .before .args .self .members) (c .before .args .host) (c .before .pre .0)) }
 
--- src/configuration.rt:35:9
 add-result : tie.Need-add-result
 add-result c = record { fits = omega (arith, c .before .before .pre .1, few (c .before .before .args .self .members) (c .before .before .args .host) (c .before .before .pre .0)) }
 
--- src/configuration.rt:30:5
 returns : tie.Need-returns
 unfolding replicaPlace replicaNumber
 returns c = rw (bit (c .before .before .args .host) (c .before .before .pre .0))

@@ -1,14 +1,13 @@
+-- `model::kind::Kind::of` meets its contract.
 use Rattle.model.specs.Kinds.{kindOf}
 use Prim.Native.Nat.{ℕ, suc, _≤_, zero-le}
 use native.Mathlib.Nat.{le-of-suc-le-suc}
 use lib.Arith.{lt-of-le-ne}
 use mathlib.Core.Bool.{and-false}
-use mathlib.Core.Path.{_≡_, refl, sym, _∙_}
-use borrow.Author.Tests.{lt-ltb, le-ltb, le-leb, lt-leb, eq-eqb, ne-eqb, not-true, not-false}
+use mathlib.Core.Path.{_≡_, sym}
+use borrow.Author.Tests.{le-leb, lt-leb, ne-eqb}
 use Rattle.model.proofs.kind.Kind.of.Statement.{statement}
 use Rattle.model.proofs.kind.Kind.of.Tie as tie
-use Rattle.model.proofs.kind.Kind.of.Reads as reads
-use Rattle.model.proofs.kind.Kind.of.Lts as lts
 
 -- a number that is none of 0 to 6 is 7 or more
 past-six : (n : ℕ) → (n ≡ 0 → ⊥) → (n ≡ 1 → ⊥) → (n ≡ 2 → ⊥) → (n ≡ 3 → ⊥) → (n ≡ 4 → ⊥) → (n ≡ 5 → ⊥) → (n ≡ 6 → ⊥) → 7 ≤ n
@@ -20,37 +19,30 @@ returns : tie.Need-returns
 unfolding kindOf
 returns c = simp (c .match .keys1)
 
--- src/kind.rt:18:5
 returns-2 : tie.Need-returns-2
 unfolding kindOf
 returns-2 c = simp (c .match .keys2)
 
--- src/kind.rt:18:5
 returns-3 : tie.Need-returns-3
 unfolding kindOf
 returns-3 c = simp (c .match .keys3)
 
--- src/kind.rt:18:5
 returns-4 : tie.Need-returns-4
 unfolding kindOf
 returns-4 c = simp (c .match .keys4)
 
--- src/kind.rt:18:5
 returns-5 : tie.Need-returns-5
 unfolding kindOf
 returns-5 c = simp (c .match .keys5)
 
--- src/kind.rt:18:5
 returns-6 : tie.Need-returns-6
 unfolding kindOf
 returns-6 c = simp (c .match .keys6)
 
--- src/kind.rt:18:5
 returns-7 : tie.Need-returns-7
 unfolding kindOf
 returns-7 c = simp (c .match .keys7)
 
--- src/kind.rt:18:5
 returns-8 : tie.Need-returns-8
 unfolding kindOf
 returns-8 c =
@@ -66,7 +58,6 @@ returns-8 c =
       le-leb _ _ (le-of-suc-le-suc (c .if1 .taken)),
     )
 
--- src/kind.rt:18:5
 returns-9 : tie.Need-returns-9
 unfolding kindOf
 returns-9 c =

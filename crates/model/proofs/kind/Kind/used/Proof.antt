@@ -1,80 +1,61 @@
+-- `model::kind::Kind::used` meets its contract.
 use Rattle.model.specs.Kinds.{usedNumbers}
-use mathlib.Core.Path.{_≡_, refl, sym, _∙_}
-use borrow.Author.Tests.{lt-ltb, le-ltb, le-leb, lt-leb, eq-eqb, ne-eqb, not-true, not-false}
 use borrow.Author.Needs.{needs}
 use Rattle.model.proofs.kind.Kind.used.Statement.{statement}
 use Rattle.model.proofs.kind.Kind.used.Tie as tie
-use Rattle.model.proofs.kind.Kind.used.Reads as reads
-use Rattle.model.proofs.kind.Kind.used.Lts as lts
 
--- src/kind.rt:39:26
 enum-told : tie.Need-enum-told
 enum-told c = search needs
 
--- src/kind.rt:40:28
 enum-told-2 : tie.Need-enum-told-2
 enum-told-2 c = search needs
 
--- src/kind.rt:41:28
 enum-told-3 : tie.Need-enum-told-3
 enum-told-3 c = search needs
 
--- src/kind.rt:42:28
 enum-told-4 : tie.Need-enum-told-4
 enum-told-4 c = search needs
 
--- src/kind.rt:43:30
 enum-told-5 : tie.Need-enum-told-5
 enum-told-5 c = search needs
 
--- src/kind.rt:44:30
 enum-told-6 : tie.Need-enum-told-6
 enum-told-6 c = search needs
 
--- src/kind.rt:45:27
 enum-told-7 : tie.Need-enum-told-7
 enum-told-7 c = search needs
 
--- src/kind.rt:46:30
 enum-told-8 : tie.Need-enum-told-8
 enum-told-8 c = search needs
 
--- src/kind.rt:35:5
 returns : tie.Need-returns
 unfolding usedNumbers
 returns c = rw (c .enum-told .given .1)
 
--- src/kind.rt:35:5
 returns-2 : tie.Need-returns-2
 unfolding usedNumbers
 returns-2 c = rw (c .enum-told2 .given .1)
 
--- src/kind.rt:35:5
 returns-3 : tie.Need-returns-3
 unfolding usedNumbers
 returns-3 c = rw (c .enum-told3 .given .1)
 
--- src/kind.rt:35:5
 returns-4 : tie.Need-returns-4
 unfolding usedNumbers
 returns-4 c = rw (c .enum-told4 .given .1)
 
--- src/kind.rt:35:5
 returns-5 : tie.Need-returns-5
 unfolding usedNumbers
 returns-5 c = rw (c .enum-told5 .given .1)
 
--- src/kind.rt:35:5
 returns-6 : tie.Need-returns-6
 unfolding usedNumbers
 returns-6 c = rw (c .enum-told6 .given .1)
 
--- src/kind.rt:35:5
 returns-7 : tie.Need-returns-7
 unfolding usedNumbers
 returns-7 c = rw (c .enum-told7 .given .1)
 
--- src/kind.rt:35:5
 returns-8 : tie.Need-returns-8
 unfolding usedNumbers
 returns-8 c = rw (c .enum-told8 .given .1)

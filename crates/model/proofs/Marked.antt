@@ -1,0 +1,91 @@
+-- The proof of `specs/Marked.antt`: setup's state is well-formed, so every row computes.
+use Prim.Native.Nat.{ℕ}
+use mathlib.Core.Path.{_≡_, refl, _∙_, subst}
+use lib.Count.{ones}
+use lib.ListN.{length}
+use Rattle.model.specs.Tests.{allBelow, concatBelow, contains}
+use Rattle.model.specs.Checks.{firstOf}
+use Rattle.model.specs.Kinds.{kindOf, isKept, isUnknown, usedNumbers}
+use Rattle.model.specs.Entries.{isTake, issue, isIssue, issueShard, issueIndex, issueOrderer, issueMembers, isProperIssue, isEntry, isIssueFor}
+use Rattle.model.specs.Members.{isHost, hasMember, replicaNumber, isMemberSet, isConfiguration}
+use Rattle.model.specs.Replicas.{readReplica, replicaWords, unused, fresh, isActive, isPending, isImmutable, added, adopted, learned, wedged, pending}
+use Rattle.model.specs.Layout.{shardsOf, isStateLength, headPlace, place, headWord, sequencer, installed, members, orderer, isInstalled, part, replicaAt, putReplica, putHead}
+use Rattle.model.specs.Configuration.{configuration, replicaPlace, replicaOf}
+use Rattle.model.specs.WellFormed.{isSequencer, allDiffer}
+use Rattle.model.specs.Setup.{planSequencer, planMembers, planOrderer, isPlannedShard, isPlan, setupRejection, initialHead, initialReplica, initialShard, initialState}
+use Rattle.model.specs.Transcript.{programPlan, programStart}
+use Rattle.model.specs.Add.{ordererPlace, ordererReplica, mayIssue, addChecks, addEffect}
+use Rattle.model.specs.Adopt.{adoptChecks, adoptEffect}
+use Rattle.model.specs.Learn.{alike, allAlike, learnChecks, learnEffect}
+use Rattle.model.specs.Wedge.{wedgeChecks, wedgeEffect}
+use Rattle.model.specs.Install.{issuer, issuedAt, isStableIssue, noneBefore, installChecks, putPending, installNext, installEffect}
+use Rattle.model.specs.Inherit.{source, isSource, inheritChecks}
+use Rattle.model.specs.Steps.{shardOf, configurationOf, areNumbers, inRange, kindChecks, kindEffect, effect}
+use Rattle.model.specs.Numbers.{withLower, readGroups, readNumber, withFirst, afterFirst, readNumbers}
+use Rattle.model.specs.Log.{stepOf, afterNumbers, afterKind, readStep}
+use Rattle.model.specs.Marked.{Case, answers, reads, word, Holds, none, next, takesUpTo, nextIssue, marked, MarkedCases}
+use Rattle.model.proofs.InitialState.{initial-length}
+use Rattle.model.proofs.WellFormed.{WellFormed}
+use Rattle.model.proofs.WellFormedSetup.{setup-formed}
+use Rattle.model.proofs.Answers.{quickRejection, quickAfter, quickAnswers, quick-answers}
+
+-- ---- the program's first state
+
+start-shards : shardsOf (length programStart) ≡ 2
+unfolding programStart shardsOf
+start-shards = rw (initial-length 2 programPlan)
+
+start-accepted : setupRejection programStart programPlan ≡ 0
+unfolding setupRejection isStateLength firstOf isPlan isPlannedShard isSequencer allDiffer allBelow
+    isConfiguration isMemberSet isHost hasMember ones planSequencer planMembers planOrderer programPlan
+start-accepted = rw start-shards
+
+start-formed : WellFormed 2 programStart
+unfolding programStart
+start-formed =
+    subst (λ (Z : ℕ). WellFormed Z (initialState Z programPlan)) start-shards (setup-formed programStart programPlan start-accepted)
+
+-- ---- the table
+
+-- what is left to compute of a row: `refl` proves it
+Computes : Case → Type 0
+Computes (answers ss ns) = quickAnswers 2 programStart ss ≡ ns
+Computes (reads bs r) = readStep bs ≡ r
+Computes (word e n) = e ≡ n
+
+computed : (c : Case) → Computes c → Holds c
+unfolding Computes Holds
+computed (answers ss ns) e = quick-answers start-formed ss ∙ e
+computed (reads bs r) e = e
+computed (word x n) e = e
+
+pub marked-cases : MarkedCases
+unfolding MarkedCases marked Computes takesUpTo nextIssue issue
+    programStart initialState programPlan planSequencer planMembers planOrderer concatBelow initialShard initialHead initialReplica
+    replicaWords readReplica fresh unused pending isActive isPending isImmutable added adopted learned wedged
+    quickAnswers quickRejection quickAfter firstOf kindOf isKept isUnknown shardOf configurationOf inRange areNumbers kindChecks effect kindEffect
+    isEntry isTake isProperIssue isIssue isIssueFor issueIndex issueShard issueOrderer issueMembers
+    isConfiguration isMemberSet isHost hasMember ones contains allBelow
+    headWord headPlace sequencer installed isInstalled members orderer putHead
+    configuration place replicaPlace replicaNumber replicaOf replicaAt part putReplica
+    ordererPlace ordererReplica mayIssue addChecks addEffect adoptChecks adoptEffect
+    alike allAlike learnChecks learnEffect wedgeChecks wedgeEffect
+    issuer issuedAt isStableIssue noneBefore installChecks installEffect installNext putPending source isSource inheritChecks
+    readStep readNumber readGroups withLower readNumbers afterFirst withFirst afterKind afterNumbers usedNumbers stepOf
+marked-cases =
+    next (computed _ refl)
+    (next (computed _ refl)
+    (next (computed _ refl)
+    (next (computed _ refl)
+    (next (computed _ refl)
+    (next (computed _ refl)
+    (next (computed _ refl)
+    (next (computed _ refl)
+    (next (computed _ refl)
+    (next (computed _ refl)
+    (next (computed _ refl)
+    (next (computed _ refl)
+    (next (computed _ refl)
+    (next (computed _ refl)
+    (next (computed _ refl)
+    (next (computed _ refl) none)))))))))))))))
