@@ -1,0 +1,12 @@
+-- The laws that the functions' proofs cite.
+-- Numbers
+pub mod FirstByte
+pub mod Turns
+pub mod Lengths
+pub mod Writes
+-- Steps
+pub mod KindTests
+pub mod StepParts
+pub mod StepBytes
+pub mod Progress
+pub mod Rejections

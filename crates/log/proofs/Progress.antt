@@ -1,0 +1,37 @@
+-- Writing bytes part by part. Assumes nothing.
+use Prim.Native.Nat.{ℕ, suc, _+_, _≤_}
+use native.Mathlib.Omega.{arith}
+use mathlib.Core.Path.{_≡_, refl}
+use mathlib.Core.List.{List, [], _∷_, _++_}
+use lib.ListN.{length, set, length-append}
+use lib.Seq.{sets, length-sets}
+
+-- a run of stores in two parts
+sets-append : (xs ys out : List ℕ) (at : ℕ) → sets out at (xs ++ ys) ≡ sets (sets out at xs) (at + length xs) ys
+sets-append [] ys out at = let here : at + 0 ≡ at = omega arith in rw here
+sets-append (x ∷ xs) ys out at =
+    let next : at + suc (length xs) ≡ suc at + length xs = omega arith in
+    rw (next, sets-append xs ys (set out at x) (suc at))
+
+-- of all the bytes that go to a position of the first output, the rest are to be written at p
+pub record Progress (first : List ℕ) (at : ℕ) (all out : List ℕ) (p : ℕ) (rest : List ℕ) : Type 0 where
+  pub same : sets out p rest ≡ sets first at all
+  pub room : p + length rest ≤ length out
+
+pub progress-first : (out : List ℕ) (at : ℕ) (all : List ℕ) → at + length all ≤ length out → Progress out at all out at all
+progress-first out at all h = record { same = refl; room = h }
+
+module _ {first : List ℕ} {at : ℕ} {all out : List ℕ} {p : ℕ} where
+  module _ (xs rest : List ℕ) (t : Progress first at all out p (xs ++ rest)) where
+    pub progress-room : p + length xs ≤ length out
+    progress-room = omega (arith, rw (length-append xs rest) at (t .room))
+
+    pub progress-next : {next : List ℕ} {q : ℕ} → q ≡ p + length xs → next ≡ sets out p xs → Progress first at all next q rest
+    progress-next e f =
+        record {
+          same = rw (e, f, ← sets-append xs rest out p) (t .same);
+          room = rw (f, length-sets out p xs) (omega (arith, e, rw (length-append xs rest) at (t .room)));
+        }
+
+  pub progress-done : Progress first at all out p [] → out ≡ sets first at all
+  progress-done t = t .same

@@ -1,0 +1,9 @@
+-- Which kinds a log takes.
+use Prim.Native.Nat.{ℕ}
+use mathlib.Core.Bool.{cond}
+use Rattle.model.specs.declared.kind.Kind.{Kind}
+use Rattle.model.specs.Kinds.{isKept, isUnknown}
+
+-- the rejection of a kind, 0 where it has none
+unfoldable pub kindRejection : Kind → ℕ
+kindRejection k = cond (isKept k) 3 (cond (isUnknown k) 4 0)

@@ -1,0 +1,4 @@
+-- What the functions inside this crate answer. The public functions answer definitions of `model`.
+pub mod Kinds
+pub mod Reader
+pub mod Writer

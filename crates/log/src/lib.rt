@@ -1,0 +1,7 @@
+// Steps as bytes: numbers, the step reader and the step writer. What they mean is in `model`: `Numbers`, `Log` and `Writer`.
+
+mod kinds;
+pub mod number;
+mod number_bytes;
+pub mod reader;
+pub mod writer;

@@ -1,0 +1,89 @@
+// Steps to bytes: a kind, then the numbers that it uses.
+use crate::kinds::rejection;
+use crate::number_bytes::number_length;
+use crate::number_bytes::write_number;
+use model::Writing;
+use model::kind::Kind;
+use model::step::Step;
+ghost use mathlib.Core.Path.{_≡_};
+ghost use Prim.Native.Nat.{_<_};
+ghost use lib.ListN.{length};
+ghost use lib.Seq.{sets};
+ghost use Rattle.model.specs.Writer.{writing, afterWriting};
+ghost use Rattle.log.specs.Writer.{writable, bytesOf, Room};
+
+// Writes a step at a position of an output: the count of bytes, or the rejection, which leaves the output untouched.
+pub fn write_step(out: &mut [u8], at: usize, s: Step) -> Writing
+    ensures { λ r. ⌜ r ≡ writing (now (out .entry)) at s ⌝ }
+    ensures { λ r. ⌜ now (out .exit) ≡ afterWriting (now (out .entry)) at s ⌝ }
+{
+    let kind = Kind::of(s.kind);
+    let bad = rejection(kind);
+    if bad != 0 {
+        return Writing::Rejected(bad);
+    }
+    let used = kind.used();
+    if !are_writable(s, used) {
+        return Writing::Rejected(7);
+    }
+    let total = step_length(s, used);
+    if out.len() < total {
+        return Writing::Rejected(8);
+    }
+    if out.len() - total < at {
+        return Writing::Rejected(8);
+    }
+    write_bytes(out, at, s, used);
+    Writing::Bytes(total)
+}
+
+// 2^35: what five bytes hold is below it.
+const LIMIT: u64 = 34359738368;
+
+// Whether each number can be written, and an unused one is 0.
+fn are_writable(s: Step, used: usize) -> bool
+    ensures { λ r. ⌜ r ≡ writable s used ⌝ }
+{
+    if LIMIT <= s.a {
+        return false;
+    }
+    if LIMIT <= s.b {
+        return false;
+    }
+    if LIMIT <= s.c {
+        return false;
+    }
+    if LIMIT <= s.d {
+        return false;
+    }
+    if 4 <= used {
+        return true;
+    }
+    s.d == 0
+}
+
+// How many bytes a step takes. Its kind takes one.
+fn step_length(s: Step, used: usize) -> usize
+    requires { ⌜ s .kind < 128 ⌝ }
+    ensures { λ r. ⌜ r ≡ length (bytesOf s used) ⌝ }
+{
+    let three = 1 + number_length(s.a) + number_length(s.b) + number_length(s.c);
+    if 4 <= used {
+        return three + number_length(s.d);
+    }
+    three
+}
+
+// Writes the bytes of a step where the output has room for them.
+fn write_bytes(out: &mut [u8], at: usize, s: Step, used: usize)
+    requires { ⌜ Room (now out) at s used ⌝ }
+    ensures { λ r. ⌜ now (out .exit) ≡ sets (now (out .entry)) at (bytesOf s used) ⌝ }
+{
+    let at_a = write_number(out, at, s.kind);
+    let at_b = write_number(out, at_a, s.a);
+    let at_c = write_number(out, at_b, s.b);
+    let at_d = write_number(out, at_c, s.c);
+    if 4 <= used {
+        write_number(out, at_d, s.d);
+    }
+}

@@ -1,0 +1,69 @@
+-- The stores of an add: an entry after a history, then the history's length, are the replica with the entry last.
+-- Assumes nothing.
+use Prim.Native.Nat.{ℕ, suc, _+_, _-_, _<_}
+use native.Mathlib.Omega.{arith}
+use mathlib.Core.Path.{_≡_, refl, sym, ap, ap₂, _∙_}
+use mathlib.Core.List.{List, [], _∷_, _++_, append-assoc}
+use lib.ListN.{length, take, drop, set, replicate, take-append-drop, length-append}
+use lib.Seq.{take-set-le, drop-set-add, take-set-lt, drop-set-lt, drop-drop, set-at}
+use Rattle.model.specs.Replicas.{Replica, replicaWords, added}
+use Rattle.model.specs.Layout.{part, replicaAt, putReplica}
+
+-- a store among 64 words, around the part that it changes
+put-word : (w : List ℕ) (at i v : ℕ) → i < 64 → set w (at + i) v ≡ take at w ++ (set (part w at) i v ++ drop (at + 64) w)
+unfolding part
+put-word w at i v h =
+    sym (take-append-drop at (set w (at + i) v))
+    ∙ ap₂ _++_ (take-set-le at w (at + i) v (omega arith))
+    (drop-set-add at w i v
+    ∙ sym (take-append-drop 64 (set (drop at w) i v))
+    ∙ ap₂ _++_ (take-set-lt 64 (drop at w) i v h) (drop-set-lt 64 (drop at w) i v h ∙ drop-drop 64 at w))
+
+-- two stores
+put-words : (w : List ℕ) (at i k x y : ℕ) → i < 64 → k < 64
+    → set (set w (at + i) x) (at + k) y ≡ take at w ++ (set (set (part w at) i x) k y ++ drop (at + 64) w)
+unfolding part
+put-words w at i k x y h g =
+    put-word (set w (at + i) x) at k y g
+    ∙ ap₂ _++_ (take-set-le at w (at + i) x (omega arith))
+    (ap₂ _++_ (ap (λ (l : List ℕ). set l k y) (ap (take 64) (drop-set-add at w i x) ∙ take-set-lt 64 (drop at w) i x h))
+    (drop-set-lt (at + 64) w (at + i) x (omega arith)))
+
+-- an entry behind a history, with eight words before
+entry-stored : (xs h : List ℕ) (e n : ℕ) → length xs ≡ 8 → length h ≡ n → n < 56
+    → set (xs ++ (h ++ replicate (56 - length h) 0)) (8 + n) e ≡ xs ++ ((h ++ (e ∷ [])) ++ replicate (56 - length (h ++ (e ∷ []))) 0)
+entry-stored xs h e n a b l =
+    ap (λ (k : ℕ). set (xs ++ (h ++ replicate k 0)) (8 + n) e) more
+    ∙ ap (λ (k : List ℕ). set k (8 + n) e) (sym (append-assoc xs h (0 ∷ rest)))
+    ∙ set-at (xs ++ h) 0 rest e (8 + n) (length-append xs h ∙ ap₂ _+_ a b)
+    ∙ append-assoc xs h (e ∷ rest)
+    ∙ ap (λ (k : List ℕ). xs ++ k) (sym (append-assoc h (e ∷ []) rest))
+    ∙ ap (λ (k : ℕ). xs ++ ((h ++ (e ∷ [])) ++ replicate k 0)) fewer
+  where
+    rest : List ℕ
+    rest = replicate (55 - n) 0
+
+    more : 56 - length h ≡ suc (55 - n)
+    more = omega arith
+
+    fewer : 55 - n ≡ 56 - length (h ++ (e ∷ []))
+    fewer = simp length-append (omega arith)
+
+-- .. and the length of the longer history
+words-added : (r : Replica) (e n : ℕ) → length (r .history) ≡ n → n < 56
+    → set (set (replicaWords r) (8 + n) e) 1 (n + 1) ≡ replicaWords (added e r)
+unfolding replicaWords added
+words-added r e n q h =
+    let more : n + 1 ≡ length (r .history ++ (e ∷ [])) = simp length-append (omega arith) in
+    ap (λ (l : List ℕ). set l 1 (n + 1))
+    (entry-stored (r .mode ∷ length (r .history) ∷ r .stable ∷ 0 ∷ 0 ∷ 0 ∷ 0 ∷ 0 ∷ []) (r .history) e n refl q h)
+    ∙ ap (λ (l : ℕ). set (replicaWords (added e r)) 1 l) more
+
+pub store-added : (w : List ℕ) (at e n : ℕ) → part w at ≡ replicaWords (replicaAt w at) → length (replicaAt w at .history) ≡ n → n < 56
+    → set (set w (at + 8 + n) e) (at + 1) (n + 1) ≡ putReplica w at (added e (replicaAt w at))
+unfolding putReplica
+store-added w at e n p q h =
+    ap (λ (i : ℕ). set (set w i e) (at + 1) (n + 1)) (omega arith)
+    ∙ put-words w at (8 + n) 1 e (n + 1) (omega arith) (omega arith)
+    ∙ ap (λ (l : List ℕ). take at w ++ (l ++ drop (at + 64) w))
+    (ap (λ (l : List ℕ). set (set l (8 + n) e) 1 (n + 1)) p ∙ words-added (replicaAt w at) e n q h)

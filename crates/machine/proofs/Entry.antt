@@ -1,0 +1,140 @@
+-- The entry points' ladders: what setup and step answer and leave, by the tests that they make in turn.
+-- Assumes nothing.
+use Prim.Native.Nat.{ℕ, _*_, _/_, _≤_}
+use native.Mathlib.Omega.{arith}
+use mathlib.Core.Path.{_≡_, refl, sym, ap, _∙_}
+use mathlib.Core.Bool.{Bool, true, false, cond, not, _&&_}
+use mathlib.Core.List.{List, [], _∷_}
+use lib.Dec.{leb, ltb, eqb}
+use lib.ListN.{length}
+use borrow.Author.Tests.{leb-true, ltb-true, le-leb, lt-leb, eq-eqb, ne-eqb}
+use Rattle.model.specs.declared.step.Step.{Step}
+use Rattle.model.specs.Checks.{firstOf}
+use Rattle.model.specs.Kinds.{kindOf, isKept, isUnknown}
+use Rattle.model.specs.Layout.{shardsOf, isStateLength}
+use Rattle.model.specs.WellFormed.{wellFormed}
+use Rattle.model.specs.Setup.{isPlan, setupRejection, afterSetup, initialState}
+use Rattle.model.specs.Steps.{shardOf, areNumbers, inRange, stepChecks, rejection, effect, after}
+use Rattle.model.proofs.Tests.{all-pass}
+use Rattle.model.proofs.Places.{length-of-shards}
+use Rattle.model.proofs.WellFormedSteps.{after-rejected}
+use Rattle.machine.specs.Inside.{Formed, ReadyStep, argumentRejection, answer, left}
+
+-- a length has no shards, or is that of a state
+pub several : (n : ℕ) → (shardsOf n ≡ 0 → ⊥) → 2 ≤ shardsOf n
+unfolding shardsOf
+several n = go (eqb (n / 2112 * 2112) n && leb 2 (n / 2112) && leb (n / 2112) 8) refl
+  where
+    go : (t : Bool) → (eqb (n / 2112 * 2112) n && leb 2 (n / 2112) && leb (n / 2112) 8) ≡ t
+        → (cond (eqb (n / 2112 * 2112) n && leb 2 (n / 2112) && leb (n / 2112) 8) (n / 2112) 0 ≡ 0 → ⊥)
+        → 2 ≤ cond (eqb (n / 2112 * 2112) n && leb 2 (n / 2112) && leb (n / 2112) 8) (n / 2112) 0
+    go true e q =
+        rw e (leb-true 2 (n / 2112) (all-pass (eqb (n / 2112 * 2112) n) (leb 2 (n / 2112) ∷ leb (n / 2112) 8 ∷ []) e .1 .0))
+    go false e q = absurd (q (rw e))
+
+pub shards-most : (n : ℕ) → shardsOf n ≤ 8
+unfolding shardsOf
+shards-most n = go (eqb (n / 2112 * 2112) n && leb 2 (n / 2112) && leb (n / 2112) 8) refl
+  where
+    go : (t : Bool) → (eqb (n / 2112 * 2112) n && leb 2 (n / 2112) && leb (n / 2112) 8) ≡ t
+        → cond (eqb (n / 2112 * 2112) n && leb 2 (n / 2112) && leb (n / 2112) 8) (n / 2112) 0 ≤ 8
+    go true e =
+        rw e (leb-true (n / 2112) 8 (all-pass (eqb (n / 2112 * 2112) n) (leb 2 (n / 2112) ∷ leb (n / 2112) 8 ∷ []) e .1 .1 .0))
+    go false e = rw e (omega arith)
+
+pub formed-of : (w : List ℕ) → (shardsOf (length w) ≡ 0 → ⊥) → wellFormed w ≡ true → Formed w
+formed-of w n f =
+    let s = several (length w) n in
+    let l = length-of-shards w (shardsOf (length w)) refl s in
+    record { formed = f; several = s; most = l .1; long = l .0 }
+
+-- ---- step
+
+-- the rejection, with 3, 4 and 7 as one
+ladder : (a b r : Bool) (k : ℕ) → cond a (cond b (cond r k 7) 4) 3 ≡ cond (eqb (cond a (cond b (cond r 0 7) 4) 3) 0) k (cond a (cond b (cond r 0 7) 4) 3)
+ladder true true true k = refl
+ladder true true false k = refl
+ladder true false r k = refl
+ladder false b r k = refl
+
+module _ (w : List ℕ) (s : Step) where
+  rejection-is : rejection w s
+      ≡ cond (isStateLength (length w))
+      (cond (eqb (argumentRejection (shardsOf (length w)) s) 0) (cond (wellFormed w) (answer w s) 9) (argumentRejection (shardsOf (length w)) s))
+      1
+  unfolding rejection stepChecks firstOf argumentRejection answer
+  rejection-is =
+      ap (λ (x : ℕ). cond (isStateLength (length w)) x 1)
+      (ladder (not (isKept (kindOf (s .kind)))) (not (isUnknown (kindOf (s .kind)))) (inRange (shardsOf (length w)) s) (cond (wellFormed w) (answer w s) 9))
+
+  -- a step that is rejected leaves the state
+  rejected : (r : ℕ) → r ≡ rejection w s → (r ≡ 0 → ⊥) → (r ≡ rejection w s) × (w ≡ after w s)
+  rejected r e n = (e, sym (after-rejected w s (λ q. n (e ∙ q))))
+
+  length-passes : (shardsOf (length w) ≡ 0 → ⊥) → isStateLength (length w) ≡ true
+  unfolding isStateLength
+  length-passes n = le-leb 2 (shardsOf (length w)) (several (length w) n)
+
+  pub rejects-length : shardsOf (length w) ≡ 0 → (1 ≡ rejection w s) × (w ≡ after w s)
+  unfolding isStateLength
+  rejects-length e = rejected 1 (sym (rejection-is ∙ rw (lt-leb 2 (shardsOf (length w)) (omega (arith, e))))) (λ q. omega arith)
+
+  pub rejects-early : (shardsOf (length w) ≡ 0 → ⊥) → (r : ℕ) → r ≡ argumentRejection (shardsOf (length w)) s → (r ≡ 0 → ⊥)
+      → (r ≡ rejection w s) × (w ≡ after w s)
+  rejects-early l r e n =
+      rejected r (sym (rejection-is ∙ rw (length-passes l, sym e, ne-eqb r 0 n))) n
+
+  pub rejects-form : (shardsOf (length w) ≡ 0 → ⊥) → argumentRejection (shardsOf (length w)) s ≡ 0 → wellFormed w ≡ false
+      → (9 ≡ rejection w s) × (w ≡ after w s)
+  rejects-form l e f =
+      rejected 9 (sym (rejection-is ∙ rw (length-passes l, eq-eqb (argumentRejection (shardsOf (length w)) s) 0 e, f))) (λ q. omega arith)
+
+  -- a step that passes them is its kind's
+  pub acts : (shardsOf (length w) ≡ 0 → ⊥) → argumentRejection (shardsOf (length w)) s ≡ 0 → wellFormed w ≡ true
+      → (answer w s ≡ rejection w s) × (left w s ≡ after w s)
+  unfolding left after effect
+  acts l e f =
+      let a : answer w s ≡ rejection w s = sym (rejection-is ∙ rw (length-passes l, eq-eqb (argumentRejection (shardsOf (length w)) s) 0 e, f)) in
+      (a, rw a)
+
+  pub ready-step : (shardsOf (length w) ≡ 0 → ⊥) → argumentRejection (shardsOf (length w)) s ≡ 0 → wellFormed w ≡ true → ReadyStep w s
+  unfolding argumentRejection firstOf inRange shardOf
+  ready-step l e f =
+      let p = all-pass (ltb (s .a) (shardsOf (length w))) (leb 1 (s .b) ∷ leb (s .b) 8 ∷ areNumbers (kindOf (s .kind)) (shardsOf (length w)) (s .c) (s .d) ∷ []) (range (not (isKept (kindOf (s .kind)))) (not (isUnknown (kindOf (s .kind)))) _ e) in
+      record {
+        state = formed-of w l f;
+        shard = ltb-true (s .a) (shardsOf (length w)) (p .0);
+        least = leb-true 1 (s .b) (p .1 .0);
+        most = leb-true (s .b) 8 (p .1 .1 .0);
+        numbers = p .1 .1 .1 .0;
+      }
+    where
+      range : (a b r : Bool) → _≡_ {A = ℕ} (cond a (cond b (cond r 0 7) 4) 3) 0 → r ≡ true
+      range true true true q = refl
+      range true true false q = absurd (omega (arith, q))
+      range true false r q = absurd (omega (arith, q))
+      range false b r q = absurd (omega (arith, q))
+
+-- a well-formed state has shards
+pub has-shards : {w : List ℕ} → Formed w → shardsOf (length w) ≡ 0 → ⊥
+has-shards f e = omega (arith, f .several, e)
+
+-- ---- setup
+
+module _ (w p : List ℕ) where
+  pub setup-length : shardsOf (length w) ≡ 0 → (1 ≡ setupRejection w p) × (w ≡ afterSetup w p)
+  unfolding setupRejection afterSetup firstOf isStateLength
+  setup-length e = (rw (lt-leb 2 (shardsOf (length w)) (omega (arith, e))), rw (lt-leb 2 (shardsOf (length w)) (omega (arith, e))))
+
+  pub setup-plan : (shardsOf (length w) ≡ 0 → ⊥) → isPlan (shardsOf (length w)) p ≡ false → (2 ≡ setupRejection w p) × (w ≡ afterSetup w p)
+  unfolding setupRejection afterSetup firstOf isStateLength
+  setup-plan n e =
+      let l = le-leb 2 (shardsOf (length w)) (several (length w) n) in
+      (rw (l, e), rw (l, e))
+
+  pub setup-done : (shardsOf (length w) ≡ 0 → ⊥) → isPlan (shardsOf (length w)) p ≡ true
+      → (0 ≡ setupRejection w p) × (initialState (shardsOf (length w)) p ≡ afterSetup w p)
+  unfolding setupRejection afterSetup firstOf isStateLength
+  setup-done n e =
+      let l = le-leb 2 (shardsOf (length w)) (several (length w) n) in
+      (rw (l, e), rw (l, e))

@@ -1,0 +1,92 @@
+-- `machine::initial::write_shard` meets its contract.
+use Prim.Native.Nat.{_-_}
+use lib.ListN.{length-set}
+use Rattle.machine.proofs.InitialParts.{Started, head-started, next-started, all-started}
+use borrow.Author.Needs.{needs}
+use Rattle.machine.proofs.initial.write_shard.Statement.{statement}
+use Rattle.machine.proofs.initial.write_shard.Tie as tie
+
+abbrev Inv-loop : tie.InvT-loop
+Inv-loop words₀ sequencer members orderer size k₀ words k = Started sequencer members orderer k words
+
+abbrev μ-loop : tie.MeasureT-loop
+μ-loop words₀ sequencer members orderer size k₀ words k = size - k
+
+clear-requires : tie.Need-clear-requires Inv-loop μ-loop
+clear-requires c κs = search needs
+
+slice-write-words : tie.Need-slice-write-words Inv-loop μ-loop
+slice-write-words c = search needs
+
+slice-write-words-2 : tie.Need-slice-write-words-2 Inv-loop μ-loop
+slice-write-words-2 c = search needs
+
+slice-write-words-3 : tie.Need-slice-write-words-3 Inv-loop μ-loop
+slice-write-words-3 c = simp length-set (search needs)
+
+slice-write-words-4 : tie.Need-slice-write-words-4 Inv-loop μ-loop
+slice-write-words-4 c = simp length-set (search needs)
+
+cast-size : tie.Need-cast-size Inv-loop μ-loop
+cast-size c = search needs
+
+loop-holds : tie.Need-loop-holds Inv-loop μ-loop
+loop-holds c =
+    let a = c .before .before .before .before .before .args in
+    head-started (a .sequencer) (a .members) (a .orderer) (a .words .now) (c .before .before .clear .last .0)
+    (c .before .before .before .before .before .pre .0) (c .before .before .clear .ensures)
+
+mul-words : tie.Need-mul-words Inv-loop μ-loop
+mul-words c = search needs
+
+add-words : tie.Need-add-words Inv-loop μ-loop
+add-words c = search needs
+
+mul-words-2 : tie.Need-mul-words-2 Inv-loop μ-loop
+mul-words-2 c = search needs
+
+slice-write-words-5 : tie.Need-slice-write-words-5 Inv-loop μ-loop
+slice-write-words-5 c = search needs
+
+add-k : tie.Need-add-k Inv-loop μ-loop
+add-k c = search needs
+
+loop-less : tie.Need-loop-less Inv-loop μ-loop
+loop-less c = search needs
+
+loop-again : tie.Need-loop-again Inv-loop μ-loop
+loop-again c =
+    let s = c .before .before .before .before .before .before .before in
+    next-started (s .args .sequencer) (s .args .members) (s .args .orderer) (c .before .loop .k) (c .before .loop .words) (search needs)
+    (s .pre .1) (c .before .loop .inv)
+
+same-length : tie.Need-same-length Inv-loop μ-loop
+same-length c = search needs
+
+returns : tie.Need-returns Inv-loop μ-loop
+returns c =
+    let a = c .before .before .before .before .before .before .before .args in
+    all-started (a .sequencer) (a .members) (a .orderer) (c .before .loop .k) (c .before .loop .words) (search needs) (c .before .loop .inv)
+
+pub write-shard-spec : {M : Type 1} → statement M
+write-shard-spec =
+    tie.close
+    (tie.spec
+    Inv-loop
+    μ-loop
+    clear-requires
+    slice-write-words
+    slice-write-words-2
+    slice-write-words-3
+    slice-write-words-4
+    cast-size
+    loop-holds
+    mul-words
+    add-words
+    mul-words-2
+    slice-write-words-5
+    add-k
+    loop-less
+    loop-again
+    same-length
+    returns)

@@ -1,0 +1,70 @@
+-- `machine::step` meets its contract.
+use borrow.Author.Needs.{needs}
+use Prim.Native.Nat.{ℕ}
+use mathlib.Core.Path.{_≡_, refl}
+use lib.ListN.{length}
+use Rattle.model.specs.Layout.{shardsOf}
+use Rattle.model.proofs.WellFormedSteps.{step-length}
+use mathlib.Core.Path.{sym, ap, _∙_}
+use borrow.Author.Tests.{not-true, not-false}
+use Rattle.machine.specs.Inside.{argumentRejection}
+use Rattle.machine.proofs.Entry.{rejects-length, rejects-early, rejects-form, acts, ready-step}
+use Rattle.machine.proofs.step.Statement.{statement}
+use Rattle.machine.proofs.step.Tie as tie
+
+shard-count-requires : tie.Need-shard-count-requires
+shard-count-requires c κs = search needs
+
+returns : tie.Need-returns
+returns c =
+    let a = c .before .before .before .args in
+    rejects-length (a .state .now) (a .s) (sym (c .before .shard-count .ensures) ∙ c .if1 .taken)
+
+rejection-requires : tie.Need-rejection-requires
+rejection-requires c κs = search needs
+
+returns-2 : tie.Need-returns-2
+returns-2 c =
+    let a = c .before .before .before .before .before .args in
+    let n : shardsOf (length (a .state .now)) ≡ 0 → ⊥ = λ q. c .before .before .if1 .left (c .before .before .before .shard-count .ensures ∙ q) in
+    let r = c .before .rejection .ensures ∙ ap (λ (z : ℕ). argumentRejection z (a .s)) (c .before .before .before .shard-count .ensures) in
+    rejects-early (a .state .now) (a .s) n (c .before .rejection .result) r (c .if2 .taken)
+
+well-formed-requires : tie.Need-well-formed-requires
+well-formed-requires c κs = search needs
+
+same-length : tie.Need-same-length
+same-length c = refl
+
+returns-3 : tie.Need-returns-3
+returns-3 c =
+    let a = c .before .before .before .before .before .before .before .before .args in
+    let n : shardsOf (length (a .state .now)) ≡ 0 → ⊥ = λ q. c .before .before .before .before .before .if1 .left (c .before .before .before .before .before .before .shard-count .ensures ∙ q) in
+    let r = c .before .before .before .before .rejection .ensures ∙ ap (λ (z : ℕ). argumentRejection z (a .s)) (c .before .before .before .before .before .before .shard-count .ensures) in
+    rejects-form (a .state .now) (a .s) n (sym r ∙ c .before .before .before .if2 .left) (sym (c .before .well-formed .ensures) ∙ not-true _ (c .if3 .taken))
+
+act-requires : tie.Need-act-requires
+act-requires c κs =
+    let a = c .before .before .before .before .before .before .before .before .before .args in
+    let n : shardsOf (length (a .state .now)) ≡ 0 → ⊥ = λ q. c .before .before .before .before .before .before .if1 .left (c .before .before .before .before .before .before .before .shard-count .ensures ∙ q) in
+    let r = c .before .before .before .before .before .rejection .ensures ∙ ap (λ (z : ℕ). argumentRejection z (a .s)) (c .before .before .before .before .before .before .before .shard-count .ensures) in
+    ready-step (a .state .now) (a .s) n (sym r ∙ c .before .before .before .before .if2 .left) (sym (c .before .before .well-formed .ensures) ∙ not-false _ (c .before .if3 .left))
+
+same-length-2 : tie.Need-same-length-2
+same-length-2 c =
+    let a = c .before .before .before .before .before .before .before .before .before .before .before .before .args in
+    let n : shardsOf (length (a .state .now)) ≡ 0 → ⊥ = λ q. c .before .before .before .before .before .before .before .before .before .if1 .left (c .before .before .before .before .before .before .before .before .before .before .shard-count .ensures ∙ q) in
+    let r = c .before .before .before .before .before .before .before .before .rejection .ensures ∙ ap (λ (z : ℕ). argumentRejection z (a .s)) (c .before .before .before .before .before .before .before .before .before .before .shard-count .ensures) in
+    let d = acts (a .state .now) (a .s) n (sym r ∙ c .before .before .before .before .before .before .before .if2 .left) (sym (c .before .before .before .before .before .well-formed .ensures) ∙ not-false _ (c .before .before .before .before .if3 .left)) in
+    ap length (c .before .before .act .ensures .1 ∙ d .1) ∙ step-length (a .state .now) (a .s)
+
+returns-4 : tie.Need-returns-4
+returns-4 c =
+    let a = c .before .before .before .before .before .before .before .before .before .before .before .before .args in
+    let n : shardsOf (length (a .state .now)) ≡ 0 → ⊥ = λ q. c .before .before .before .before .before .before .before .before .before .if1 .left (c .before .before .before .before .before .before .before .before .before .before .shard-count .ensures ∙ q) in
+    let r = c .before .before .before .before .before .before .before .before .rejection .ensures ∙ ap (λ (z : ℕ). argumentRejection z (a .s)) (c .before .before .before .before .before .before .before .before .before .before .shard-count .ensures) in
+    let d = acts (a .state .now) (a .s) n (sym r ∙ c .before .before .before .before .before .before .before .if2 .left) (sym (c .before .before .before .before .before .well-formed .ensures) ∙ not-false _ (c .before .before .before .before .if3 .left)) in
+    (c .before .before .act .ensures .0 ∙ d .0, c .before .before .act .ensures .1 ∙ d .1)
+
+pub step-spec : {M : Type 1} → statement M
+step-spec = tie.close (tie.spec shard-count-requires returns rejection-requires returns-2 well-formed-requires same-length returns-3 act-requires same-length-2 returns-4)

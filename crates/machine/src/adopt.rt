@@ -1,0 +1,73 @@
+// Kind 2, adopt: a replica takes over the orderer's history.
+use crate::look;
+use crate::words;
+ghost use mathlib.Core.Path.{_≡_};
+ghost use mathlib.Core.Bool.{true};
+ghost use Prim.Native.Nat.{min, max};
+ghost use Rattle.model.specs.Checks.{firstOf};
+ghost use Rattle.model.specs.Layout.{isInstalled};
+ghost use Rattle.model.specs.Add.{ordererPlace};
+ghost use Rattle.model.specs.Adopt.{adoptChecks, adoptEffect};
+ghost use Rattle.machine.specs.Inside.{Ready, ReadyHost, Placed};
+
+// The place of the orderer's replica of an installed configuration.
+fn orderer_place(state: &[u64], z: usize, j: usize) -> usize
+    requires { ⌜ Ready (now state) z j × (isInstalled (now state) z j ≡ true) ⌝ }
+    ensures { λ r. ⌜ (r ≡ ordererPlace (now (state .entry)) z j) × Placed (now (state .entry)) r ⌝ }
+{
+    let c = look::configuration_of(state, z, j);
+    c.replica(c.orderer)
+}
+
+// The rejection of adopting, 0 where it is accepted: 10, 11, 14, 12, 13.
+pub fn decide(state: &[u64], z: usize, j: usize, host: u64) -> u64
+    requires { ⌜ ReadyHost (now state) z j host ⌝ }
+    ensures { λ r. ⌜ r ≡ firstOf (adoptChecks (now (state .entry)) z j host) ⌝ }
+{
+    let seat = look::find(state, z, j, host);
+    let p = seat.place;
+    if seat.answer != 0 {
+        return seat.answer;
+    }
+    if host == look::configuration_of(state, z, j).orderer {
+        return 14;
+    }
+    if state[p] != 2 {
+        return 12;
+    }
+    let o = orderer_place(state, z, j);
+    if state[o] == 1 {
+        return 13;
+    }
+    0
+}
+
+// The larger of two numbers.
+fn larger(a: u64, b: u64) -> u64
+    ensures { λ r. ⌜ r ≡ max a b ⌝ }
+{
+    if a < b { b } else { a }
+}
+
+// The smaller of two numbers.
+fn smaller(a: u64, b: u64) -> u64
+    ensures { λ r. ⌜ r ≡ min a b ⌝ }
+{
+    if a < b { a } else { b }
+}
+
+// The effect of an accepted adopt: the orderer's words, with the replica's mode and the new stable length.
+pub fn change(state: &mut [u64], z: usize, j: usize, host: u64)
+    requires { ⌜ ReadyHost (now state) z j host × (firstOf (adoptChecks (now state) z j host) ≡ 0) ⌝ }
+    ensures { λ _. ⌜ now (state .exit) ≡ adoptEffect (now (state .entry)) z j host ⌝ }
+{
+    let p = look::find(state, z, j, host).place;
+    let o = orderer_place(state, z, j);
+    let last = o + 64;
+    let mut copy = [0u64; 64];
+    words::copy_words(&mut copy, &state[o..last]);
+    copy[2] = smaller(larger(state[p + 2], copy[2]), copy[1]);
+    copy[0] = state[p];
+    let end = p + 64;
+    words::copy_words(&mut state[p..end], &copy);
+}

@@ -1,0 +1,59 @@
+// Looking into a well-formed state: configurations by value, and where a host's replica is.
+use model::configuration::Configuration;
+ghost use mathlib.Core.Path.{_≡_};
+ghost use Prim.Native.Nat.{_+_, _≤_};
+ghost use lib.ListN.{length};
+ghost use Rattle.model.specs.Layout.{isInstalled};
+ghost use Rattle.model.specs.Configuration.{configuration};
+ghost use Rattle.machine.specs.Inside.{Ready, ReadyHost, Placed};
+ghost use Rattle.machine.specs.Seats.{seatOf};
+
+// Whether configuration j of shard z is installed.
+pub fn is_installed(state: &[u64], z: usize, j: usize) -> bool
+    requires { ⌜ Ready (now state) z j ⌝ }
+    ensures { λ r. ⌜ r ≡ isInstalled (now (state .entry)) z j ⌝ }
+{
+    (j as u64) < state[z * 2112 + 1]
+}
+
+// Configuration j of shard z.
+pub fn configuration_of(state: &[u64], z: usize, j: usize) -> Configuration
+    requires { ⌜ Ready (now state) z j ⌝ }
+    ensures { λ r. ⌜ r ≡ configuration (now (state .entry)) z j ⌝ }
+{
+    Configuration {
+        place: z * 2112 + 64 + j * 256,
+        members: state[z * 2112 + 2 + j],
+        orderer: state[z * 2112 + 10 + j],
+    }
+}
+
+// Where a host's replica is: its place, or the rejection 10 or 11.
+pub struct Seat {
+    pub answer: u64,
+    pub place: usize,
+}
+
+// The replica of a host in configuration j of shard z.
+pub fn find(state: &[u64], z: usize, j: usize, host: u64) -> Seat
+    requires { ⌜ ReadyHost (now state) z j host ⌝ }
+    ensures { λ r. ⌜ (r ≡ seatOf (now (state .entry)) z j host) × Placed (now (state .entry)) (r .place) ⌝ }
+{
+    if !is_installed(state, z, j) {
+        return Seat {
+            answer: 10,
+            place: 0,
+        };
+    }
+    let c = configuration_of(state, z, j);
+    if !c.has(host) {
+        return Seat {
+            answer: 11,
+            place: 0,
+        };
+    }
+    Seat {
+        answer: 0,
+        place: c.replica(host),
+    }
+}

@@ -1,0 +1,4 @@
+-- Laws of the run.
+pub mod Rest
+pub mod Running
+pub mod Whole

@@ -1,0 +1,60 @@
+-- The run's loop: its invariant, and its turns.
+-- Assumes nothing.
+use Prim.Native.Nat.{ℕ, _+_, _<_}
+use native.Mathlib.Nat.{add-zero}
+use mathlib.Core.Path.{_≡_, refl, sym, subst, _∙_}
+use mathlib.Core.Bool.{cond}
+use mathlib.Core.List.{List}
+use lib.Dec.{eqb}
+use lib.ListN.{length}
+use borrow.Author.Tests.{eq-eqb, ne-eqb}
+use Rattle.model.specs.declared.step.Step.{Step}
+use Rattle.model.specs.declared.Reading.the-variants.{Step as Read}
+use Rattle.model.specs.Steps.{rejection, after}
+use Rattle.model.specs.Log.{readAt}
+use Rattle.model.proofs.WellFormedSteps.{kept, step-length}
+use Rattle.machine.specs.Inside.{Formed}
+use Rattle.replay.proofs.Rest.{Rest, rest-start, rest-step}
+
+-- a well-formed state stays so
+formed-after : {w : List ℕ} → Formed w → (s : Step) → Formed (after w s)
+formed-after {w} f s =
+    record {
+      formed = kept w s (f .formed);
+      several = rw (step-length w s) (f .several);
+      most = rw (step-length w s) (f .most);
+      long = rw (step-length w s) (f .long);
+    }
+
+pub record Running (w₀ log : List ℕ) (budget : ℕ) (w : List ℕ) (at tried rejected : ℕ) : Type 0 where
+  pub rest : Rest w₀ log budget w at tried rejected
+  pub formed : Formed w
+  pub long : length w ≡ length w₀
+
+pub start : (w log : List ℕ) (budget : ℕ) → Formed w → Running w log budget w 0 0 0
+start w log budget f = record { rest = rest-start w log budget; formed = f; long = refl }
+
+module _ {w₀ log : List ℕ} {budget : ℕ} {w : List ℕ} {at tried rejected : ℕ} (x : Running w₀ log budget w at tried rejected) (s : Step) (next : ℕ)
+    (h : tried < budget) (e : readAt log at ≡ Read s next) where
+  stepped : Running w₀ log budget (after w s) next (tried + 1) (rejected + cond (eqb (rejection w s) 0) 0 1)
+  stepped =
+      record {
+        rest = rest-step (x .rest) s next h e;
+        formed = formed-after (x .formed) s;
+        long = step-length w s ∙ x .long;
+      }
+
+  -- a rejected step counts, an accepted one does not
+  pub turn-rejected : (a : ℕ) (w′ : List ℕ) → a ≡ rejection w s → w′ ≡ after w s → (a ≡ 0 → ⊥)
+      → Running w₀ log budget w′ next (tried + 1) (rejected + 1)
+  turn-rejected a w′ p q n =
+      rw q
+      (subst (λ (r : ℕ). Running w₀ log budget (after w s) next (tried + 1) (rejected + r))
+      (rw (ne-eqb (rejection w s) 0 (λ z. n (p ∙ z)))) stepped)
+
+  pub turn-accepted : (a : ℕ) (w′ : List ℕ) → a ≡ rejection w s → w′ ≡ after w s → a ≡ 0
+      → Running w₀ log budget w′ next (tried + 1) rejected
+  turn-accepted a w′ p q z =
+      rw q
+      (subst (λ (r : ℕ). Running w₀ log budget (after w s) next (tried + 1) r)
+      (rw (eq-eqb (rejection w s) 0 (sym p ∙ z)) (add-zero rejected)) stepped)

@@ -1,0 +1,2 @@
+-- The run inside a replay, on a state that is known to be well-formed.
+pub mod Run

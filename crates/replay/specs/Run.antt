@@ -1,0 +1,19 @@
+-- What a run reports and leaves once the state is tested: the steps that its log reads to, tried one by one.
+use Prim.Native.Nat.{ℕ}
+use mathlib.Core.List.{List}
+use lib.ListN.{length}
+use Rattle.model.specs.declared.Stop.{Stop}
+use Rattle.model.specs.declared.Report.{Report}
+use Rattle.model.specs.Log.{readLog}
+use Rattle.model.specs.Replay.{afterAll, rejectedIn}
+
+abbrev pub reported : Stop → ℕ → ℕ → ℕ → Report
+reported stop tried rejected bytes = record { stop = stop; tried = tried; rejected = rejected; bytes = bytes }
+
+unfoldable pub runReport : List ℕ → List ℕ → ℕ → Report
+runReport w log budget =
+    reported (readLog budget log .stop) (length (readLog budget log .steps)) (rejectedIn w (readLog budget log .steps))
+    (readLog budget log .bytes)
+
+unfoldable pub afterRun : List ℕ → List ℕ → ℕ → List ℕ
+afterRun w log budget = afterAll w (readLog budget log .steps)

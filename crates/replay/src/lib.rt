@@ -1,0 +1,67 @@
+// The log run: steps are read and tried in order, on a state that is scanned once.
+use model::Reading;
+use model::Report;
+use model::Stop;
+ghost use mathlib.Core.Path.{_≡_};
+ghost use Rattle.model.specs.Replay.{report, afterReplay};
+ghost use Rattle.machine.specs.Inside.{Formed};
+ghost use Rattle.replay.specs.Run.{reported, runReport, afterRun};
+
+// Replays a log with a budget of steps: how it stopped, the steps tried, those rejected, and the bytes of whole steps.
+pub fn replay(state: &mut [u64], log: &[u8], budget: u64) -> Report
+    ensures { λ r. ⌜ (r ≡ report (now (state .entry)) (now (log .entry)) budget) × (now (state .exit) ≡ afterReplay (now (state .entry)) (now (log .entry)) budget) ⌝ }
+{
+    let early = wellformed::state_rejection(state);
+    if early != 0 {
+        return Report {
+            stop: Stop::Rejected(early),
+            tried: 0,
+            rejected: 0,
+            bytes: 0,
+        };
+    }
+    run(state, log, budget)
+}
+
+// The same on a state that is known to be well-formed.
+fn run(state: &mut [u64], log: &[u8], budget: u64) -> Report
+    requires { ⌜ Formed (now state) ⌝ }
+    ensures { λ r. ⌜ (r ≡ runReport (now (state .entry)) (now (log .entry)) budget) × (now (state .exit) ≡ afterRun (now (state .entry)) (now (log .entry)) budget) ⌝ }
+{
+    let mut at: usize = 0;
+    let mut tried: u64 = 0;
+    let mut rejected: u64 = 0;
+    while tried < budget {
+        match log::reader::read_step(log, at) {
+            Reading::Step { step, next } => {
+                if machine::step_inside(state, step) != 0 {
+                    rejected += 1;
+                }
+                tried += 1;
+                at = next;
+            }
+            Reading::End => {
+                return stopped(Stop::Ended, tried, rejected, at);
+            }
+            Reading::Rejected(r) => {
+                return stopped(Stop::Damaged(r), tried, rejected, at);
+            }
+        }
+    }
+    if log.len() <= at {
+        return stopped(Stop::Ended, tried, rejected, at);
+    }
+    stopped(Stop::Spent, tried, rejected, at)
+}
+
+// A report.
+fn stopped(stop: Stop, tried: u64, rejected: u64, at: usize) -> Report
+    ensures { λ r. ⌜ r ≡ reported stop tried rejected at ⌝ }
+{
+    Report {
+        stop,
+        tried,
+        rejected,
+        bytes: at as u64,
+    }
+}

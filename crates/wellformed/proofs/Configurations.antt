@@ -1,0 +1,101 @@
+-- The test of a configuration of a state, as tests of the words where the code reads them.
+use Prim.Native.Nat.{ℕ, _+_, _*_, _/_, _%_, _≤_, _<_}
+use native.Mathlib.Nat.{div-add-mod', mod-lt}
+use native.Mathlib.Omega.{arith}
+use mathlib.Core.Path.{_≡_, sym, ap, subst, _∙_}
+use mathlib.Core.Bool.{Bool, true, false, _&&_, and-false}
+use mathlib.Core.List.{List}
+use lib.Dec.{ltb, eqb}
+use lib.Count.{ones}
+use lib.ListN.{length, getD, take, drop}
+use borrow.Author.Tests.{lt-ltb, le-ltb, ne-eqb}
+use Rattle.model.specs.Tests.{allBelow}
+use Rattle.model.specs.Members.{isConfiguration}
+use Rattle.model.specs.Layout.{place, isInstalled, part}
+use Rattle.model.specs.WellFormed.{isPart, isHeadOf, isConfigurationOf}
+use Rattle.model.proofs.Tests.{all-below, below-all}
+use Rattle.wellformed.proofs.Ranges.{same-test, alike}
+use Rattle.wellformed.proofs.Zeros.{zeros, part-length, zeros-at}
+use Rattle.wellformed.proofs.Words.{unused-words}
+use Rattle.wellformed.proofs.Heads.{installed-word, members-word, orderer-word}
+
+-- ---- four parts in a row
+
+four : (f : ℕ → Bool) → allBelow 4 (λ k. allBelow 64 (λ i. f (k * 64 + i))) ≡ allBelow 256 f
+four f =
+    same-test (allBelow 4 (λ k. allBelow 64 (λ i. f (k * 64 + i)))) (allBelow 256 f)
+    (λ e. below-all 256 f
+    (λ i h.
+    let q : i / 64 < 4 = omega (arith, div-add-mod' i 64) in
+    let r : i % 64 < 64 = mod-lt i (omega arith) in
+    subst (λ (x : ℕ). f x ≡ true) (div-add-mod' i 64)
+    (all-below 64 (λ r. f (i / 64 * 64 + r)) (all-below 4 (λ k. allBelow 64 (λ i. f (k * 64 + i))) e (i / 64) q) (i % 64) r)))
+    (λ e. below-all 4 (λ k. allBelow 64 (λ i. f (k * 64 + i)))
+    (λ k hk. below-all 64 (λ i. f (k * 64 + i)) (λ i hi. all-below 256 f e (k * 64 + i) (omega arith))))
+
+-- no members: all four parts are 0
+no-parts : (w : List ℕ) (Z j at : ℕ) → at + 256 ≤ length w
+    → zeros (take 256 (drop at w)) ≡ allBelow 4 (λ k. isPart Z j (ltb k 0) (part w (at + k * 64)))
+unfolding part
+no-parts w Z j at fits =
+    zeros-at 256 at w fits ∙ sym (four (λ i. eqb (getD w (at + i) 0) 0))
+    ∙ alike 4 (λ k. allBelow 64 (λ i. eqb (getD w (at + (k * 64 + i)) 0) 0)) (λ k. isPart Z j (ltb k 0) (take 64 (drop (at + k * 64) w))) one
+  where
+    one : (k : ℕ) → k < 4 → allBelow 64 (λ i. eqb (getD w (at + (k * 64 + i)) 0) 0) ≡ isPart Z j (ltb k 0) (take 64 (drop (at + k * 64) w))
+    one k h =
+        let f : at + k * 64 + 64 ≤ length w = omega arith in
+        alike 64 (λ i. eqb (getD w (at + (k * 64 + i)) 0) 0) (λ i. eqb (getD w (at + k * 64 + i) 0) 0)
+        (λ i l. ap (λ (x : ℕ). eqb (getD w x 0) 0) (omega arith))
+        ∙ sym (zeros-at 64 (at + k * 64) w f)
+        ∙ sym (unused-words Z j (take 64 (drop (at + k * 64) w)) (part-length 64 (at + k * 64) w f))
+        ∙ ap (λ (b : Bool). isPart Z j b (take 64 (drop (at + k * 64) w))) (sym (le-ltb k 0 (omega arith)))
+
+-- ---- a configuration
+
+-- its words, and where its parts begin
+abbrev pub countWord : List ℕ → ℕ → ℕ
+countWord w z = getD w (z * 2112 + 1) 0
+
+abbrev pub membersWord : List ℕ → ℕ → ℕ → ℕ
+membersWord w z j = getD w (z * 2112 + 2 + j) 0
+
+abbrev pub ordererWord : List ℕ → ℕ → ℕ → ℕ
+ordererWord w z j = getD w (z * 2112 + 10 + j) 0
+
+abbrev pub firstPlace : ℕ → ℕ → ℕ
+firstPlace z j = z * 2112 + 64 + j * 256
+
+-- the four parts, the first n of them members'
+abbrev pub areParts : List ℕ → ℕ → ℕ → ℕ → ℕ → Bool
+areParts w Z j p n = allBelow 4 (λ k. isPart Z j (ltb k n) (part w (p + k * 64)))
+
+module _ (w : List ℕ) (Z z j : ℕ) where
+  -- where the configuration is installed
+  in-place : j < countWord w z → isConfigurationOf w Z z j
+      ≡ (isConfiguration (membersWord w z j) (ordererWord w z j) && areParts w Z j (firstPlace z j) (ones (membersWord w z j)))
+  unfolding isConfigurationOf isHeadOf isInstalled place
+  in-place h = rw (installed-word w z, members-word w z j, orderer-word w z j, lt-ltb j (countWord w z) h)
+
+  -- where it is not
+  not-in-place : countWord w z ≤ j → isConfigurationOf w Z z j
+      ≡ (eqb (membersWord w z j) 0 && eqb (ordererWord w z j) 0 && areParts w Z j (firstPlace z j) (ones (membersWord w z j)))
+  unfolding isConfigurationOf isHeadOf isInstalled place
+  not-in-place h = rw (installed-word w z, members-word w z j, orderer-word w z j, le-ltb j (countWord w z) h)
+
+  pub improper : j < countWord w z → false ≡ isConfiguration (membersWord w z j) (ordererWord w z j) → false ≡ isConfigurationOf w Z z j
+  improper h e = rw (in-place h, ← e)
+
+  pub proper-members : (n : ℕ) → j < countWord w z → true ≡ isConfiguration (membersWord w z j) (ordererWord w z j)
+      → n ≡ ones (membersWord w z j) → areParts w Z j (firstPlace z j) n ≡ isConfigurationOf w Z z j
+  proper-members n h e d = rw (in-place h, ← e, d)
+
+  pub some-members : countWord w z ≤ j → (membersWord w z j ≡ 0 → ⊥) → false ≡ isConfigurationOf w Z z j
+  some-members h n = rw (not-in-place h, ne-eqb (membersWord w z j) 0 n)
+
+  pub some-orderer : countWord w z ≤ j → (ordererWord w z j ≡ 0 → ⊥) → false ≡ isConfigurationOf w Z z j
+  some-orderer h n = rw (not-in-place h, ne-eqb (ordererWord w z j) 0 n, and-false)
+
+  pub no-members : firstPlace z j + 256 ≤ length w → countWord w z ≤ j → membersWord w z j ≡ 0 → ordererWord w z j ≡ 0
+      → zeros (take 256 (drop (firstPlace z j) w)) ≡ isConfigurationOf w Z z j
+  unfolding ones
+  no-members f h m o = rw (not-in-place h, m, o) (no-parts w Z j (firstPlace z j) f)

@@ -1,0 +1,61 @@
+-- `wellformed::replica::all_takes` meets its contract. The loop's invariant: the words joined are below 2 ^ 32 where each of them is a take.
+use Prim.Native.Nat.{_≤_, _-_}
+use native.Mathlib.Omega.{arith}
+use mathlib.Core.Path.{_≡_, refl}
+use borrow.Author.Needs.{needs}
+use lib.Dec.{ltb}
+use lib.ListN.{length, getD}
+use Rattle.model.specs.Tests.{allBelow}
+use Rattle.model.specs.Entries.{isTake}
+use Rattle.wellformed.proofs.Ranges.{reached, of-below}
+use Rattle.wellformed.proofs.Takes.{takes-more}
+use Rattle.wellformed.proofs.replica.all_takes.Statement.{statement}
+use Rattle.wellformed.proofs.replica.all_takes.Tie as tie
+
+abbrev Inv-loop : tie.InvT-loop
+Inv-loop words joined₀ i₀ joined i = (i ≤ length words) × (ltb joined 4294967296 ≡ allBelow i (λ k. isTake (getD words k 0)))
+
+abbrev μ-loop : tie.MeasureT-loop
+μ-loop words joined₀ i₀ joined i = length words - i
+
+loop-holds : tie.Need-loop-holds Inv-loop μ-loop
+unfolding allBelow
+loop-holds c = (omega arith, refl)
+
+mul-e : tie.Need-mul-e Inv-loop μ-loop
+mul-e c = omega arith
+
+shared-slice-read-e : tie.Need-shared-slice-read-e Inv-loop μ-loop
+shared-slice-read-e c = omega arith
+
+wrapping-sub-u64-requires : tie.Need-wrapping-sub-u64-requires Inv-loop μ-loop
+wrapping-sub-u64-requires c κs = tt
+
+add-i : tie.Need-add-i Inv-loop μ-loop
+add-i c = omega arith
+
+loop-less : tie.Need-loop-less Inv-loop μ-loop
+loop-less c = omega arith
+
+loop-again : tie.Need-loop-again Inv-loop μ-loop
+loop-again c =
+    let at = c .before .before .before .loop in
+    (omega arith, takes-more (c .before .before .before .before .before .args .words .now) (at .i) (at .joined) (c .wrapping-sub-u64 .result) (search needs) (c .wrapping-sub-u64 .ensures) (at .inv .1))
+
+returns : tie.Need-returns Inv-loop μ-loop
+returns c = rw of-below (reached _ (c .before .loop .i) _ _ (omega arith) (omega arith) (c .before .loop .inv .1))
+
+pub all-takes-spec : {M : Type 1} → statement M
+all-takes-spec =
+    tie.close
+    (tie.spec
+    Inv-loop
+    μ-loop
+    loop-holds
+    mul-e
+    shared-slice-read-e
+    wrapping-sub-u64-requires
+    add-i
+    loop-less
+    loop-again
+    returns)
