@@ -5,18 +5,18 @@ ghost use Rattle.model.specs.Setup.{setupRejection, afterSetup};
 ghost use Rattle.model.specs.Steps.{rejection, after};
 ghost use Rattle.machine.specs.Inside.{Formed};
 
-pub mod act;
-pub mod add;
-pub mod adopt;
-pub mod arguments;
-pub mod inherit;
-pub mod initial;
-pub mod install;
-pub mod learn;
-pub mod look;
-pub mod plan;
-pub mod wedge;
-pub mod words;
+mod act;
+mod add;
+mod adopt;
+mod arguments;
+mod inherit;
+mod initial;
+mod install;
+mod learn;
+mod look;
+mod plan;
+mod wedge;
+mod words;
 
 // Setup: 0 and the whole state written, or the rejection (1 or 2) and the state as it was.
 pub fn setup(state: &mut [u64], plan: &[u64]) -> u64

@@ -4,11 +4,11 @@ ghost use Rattle.model.specs.Layout.{shardsOf};
 ghost use Rattle.model.specs.WellFormed.{wellFormed};
 ghost use Rattle.model.specs.Replay.{replayRejection};
 
-pub mod configuration;
+mod configuration;
 pub mod entry;
 pub mod members;
-pub mod replica;
-pub mod sequencer;
+mod replica;
+mod sequencer;
 pub mod shard;
 
 // The number of shards of a state of `len` words, 0 where no state has that length.
