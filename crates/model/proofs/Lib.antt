@@ -52,6 +52,7 @@ pub mod OneList
 pub mod Numbers
 pub mod Several
 pub mod RoundTrip
+pub mod Results
 -- The marked cases
 pub mod Answers
 pub mod Marked

@@ -29,3 +29,4 @@ pub mod OneList
 pub mod RoundTrip
 pub mod StaysWellFormed
 pub mod Marked
+pub mod Results
