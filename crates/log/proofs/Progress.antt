@@ -7,7 +7,7 @@ use lib.ListN.{length, set, length-append}
 use lib.Seq.{sets, length-sets}
 
 -- a run of stores in two parts
-sets-append : (xs ys out : List ℕ) (at : ℕ) → sets out at (xs ++ ys) ≡ sets (sets out at xs) (at + length xs) ys
+pub sets-append : (xs ys out : List ℕ) (at : ℕ) → sets out at (xs ++ ys) ≡ sets (sets out at xs) (at + length xs) ys
 sets-append [] ys out at = let here : at + 0 ≡ at = omega arith in rw here
 sets-append (x ∷ xs) ys out at =
     let next : at + suc (length xs) ≡ suc at + length xs = omega arith in
@@ -17,9 +17,10 @@ sets-append (x ∷ xs) ys out at =
 pub record Progress (first : List ℕ) (at : ℕ) (all out : List ℕ) (p : ℕ) (rest : List ℕ) : Type 0 where
   pub same : sets out p rest ≡ sets first at all
   pub room : p + length rest ≤ length out
+  pub end : p + length rest ≡ at + length all
 
 pub progress-first : (out : List ℕ) (at : ℕ) (all : List ℕ) → at + length all ≤ length out → Progress out at all out at all
-progress-first out at all h = record { same = refl; room = h }
+progress-first out at all h = record { same = refl; room = h; end = refl }
 
 module _ {first : List ℕ} {at : ℕ} {all out : List ℕ} {p : ℕ} where
   module _ (xs rest : List ℕ) (t : Progress first at all out p (xs ++ rest)) where
@@ -31,7 +32,12 @@ module _ {first : List ℕ} {at : ℕ} {all out : List ℕ} {p : ℕ} where
         record {
           same = rw (e, f, ← sets-append xs rest out p) (t .same);
           room = rw (f, length-sets out p xs) (omega (arith, e, rw (length-append xs rest) at (t .room)));
+          end = omega (arith, e, rw (length-append xs rest) at (t .end));
         }
+
+  -- all is written, up to the position p
+  pub progress-end : Progress first at all out p [] → p ≡ at + length all
+  progress-end t = omega (arith, t .end)
 
   pub progress-done : Progress first at all out p [] → out ≡ sets first at all
   progress-done t = t .same

@@ -20,7 +20,7 @@ use Rattle.model.proofs.WellFormedParts.{part-is-words}
 use Rattle.machine.specs.Inside.{Formed, Ready}
 
 -- a word of a part is a word of the state
-part-word : (w : List ℕ) (at i : ℕ) → i < 64 → getD (part w at) i 0 ≡ getD w (at + i) 0
+pub part-word : (w : List ℕ) (at i : ℕ) → i < 64 → getD (part w at) i 0 ≡ getD w (at + i) 0
 unfolding part
 part-word w at i h = getD-take 64 (drop at w) i 0 h ∙ getD-drop at w i 0
 

@@ -6,8 +6,8 @@ use mathlib.Core.Path.{_≡_, refl, sym, ap, ap₂, _∙_}
 use mathlib.Core.Bool.{_&&_}
 use mathlib.Core.List.{List, [], _∷_, _++_}
 use lib.Dec.{leb, eqb}
-use lib.ListN.{length, getD, drop, replicate}
-use lib.Seq.{getD-take, getD-drop, getD-append-add}
+use lib.ListN.{length, getD, replicate}
+use lib.Seq.{getD-append-add}
 use Rattle.model.specs.Members.{size}
 use Rattle.model.specs.Replicas.{replicaWords}
 use Rattle.model.specs.Layout.{part, place, replicaAt, shardsOf, members}
@@ -18,7 +18,7 @@ use Rattle.model.proofs.WellFormedParts.{part-is-words}
 use Rattle.model.proofs.WellFormedMembers.{size-few}
 use Rattle.machine.specs.Inside.{Ready, Placed}
 use Rattle.machine.specs.AlikeWords.{Compared, alikeEntry, alikeAt, allAlikeAt}
-use Rattle.machine.proofs.Fields.{formed}
+use Rattle.machine.proofs.Fields.{part-word, formed}
 use Rattle.machine.proofs.LearnRanges.{below-same}
 
 -- ---- a history with zeros behind it
@@ -37,8 +37,7 @@ padded (x ∷ h) m (suc p) = padded h m p
 
 module _ (w : List ℕ) (at : ℕ) (e : part w at ≡ replicaWords (replicaAt w at)) where
   word : (i : ℕ) → i < 64 → getD w (at + i) 0 ≡ getD (replicaWords (replicaAt w at)) i 0
-  unfolding part
-  word i h = sym (getD-take 64 (drop at w) i 0 h ∙ getD-drop at w i 0) ∙ ap (λ (l : List ℕ). getD l i 0) e
+  word i h = sym (part-word w at i h) ∙ ap (λ (l : List ℕ). getD l i 0) e
 
   length-word : getD w (at + 1) 0 ≡ length (replicaAt w at .history)
   unfolding replicaWords

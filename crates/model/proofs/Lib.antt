@@ -23,6 +23,7 @@ pub mod WellFormedSteps
 pub mod InitialState
 pub mod WellFormedSetup
 pub mod StaysWellFormed
+pub mod ProgramStart
 -- One shard
 pub mod Prefixes
 pub mod Histories

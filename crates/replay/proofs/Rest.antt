@@ -5,7 +5,7 @@ use native.Mathlib.Nat.{zero-add, add-zero, add-assoc, sub-zero}
 use native.Mathlib.Omega.{arith}
 use mathlib.Core.Path.{_≡_, refl, sym, ap, ap₂, _∙_}
 use mathlib.Core.Bool.{Bool, true, false, cond}
-use mathlib.Core.List.{List}
+use mathlib.Core.List.{List, _∷_}
 use lib.Dec.{eqb}
 use lib.ListN.{length, drop, drop-of-length-le, length-drop}
 use lib.Seq.{drop-drop, drop-cons}
@@ -88,6 +88,34 @@ log-damaged : (n : ℕ) (bs : List ℕ) (r : ℕ) → readStep bs ≡ Rejected r
 unfolding readLog logAfter
 log-damaged n bs r e = rw e
 
+-- what is still to be read at a turn
+module _ (log : List ℕ) (budget at tried : ℕ) where
+  one-less : tried < budget → budget - tried ≡ suc (budget - (tried + 1))
+  one-less h = omega arith
+
+  pub reads-step : (s : Step) (next : ℕ) → tried < budget → readAt log at ≡ Read s next
+      → readLog (budget - tried) (drop at log) .steps ≡ s ∷ readLog (budget - (tried + 1)) (drop next log) .steps
+  unfolding withStep
+  reads-step s next h e =
+      let d = read-step log at s next e in
+      let there : drop (d .0) (drop at log) ≡ drop next log = drop-drop (d .0) at log ∙ ap (λ (k : ℕ). drop k log) (sym (d .2)) in
+      rw (one-less h, log-step (budget - (tried + 1)) (drop at log) s (d .0) (d .1), there)
+
+  pub reads-end : tried < budget → readAt log at ≡ End → readLog (budget - tried) (drop at log) ≡ stopped Ended
+  reads-end h e = rw (one-less h) (log-end (budget - (tried + 1)) (drop at log) (read-end log at e))
+
+  pub reads-damage : (r : ℕ) → tried < budget → readAt log at ≡ Rejected r → readLog (budget - tried) (drop at log) ≡ stopped (Damaged r)
+  reads-damage r h e = rw (one-less h) (log-damaged (budget - (tried + 1)) (drop at log) r (read-rejected log at r e))
+
+  -- the budget is used up: ended where no byte is left, else spent
+  pub reads-all : budget ≤ tried → length log ≤ at → readLog (budget - tried) (drop at log) ≡ stopped Ended
+  unfolding readLog isEmpty
+  reads-all h l = let b : budget - tried ≡ 0 = omega arith in rw (b, drop-of-length-le log l)
+
+  pub reads-part : budget ≤ tried → at < length log → readLog (budget - tried) (drop at log) ≡ stopped Spent
+  unfolding readLog isEmpty
+  reads-part h l = let b : budget - tried ≡ 0 = omega arith in rw (b, drop-cons log at 0 l)
+
 -- a run of one step more
 run-step : (w bs : List ℕ) (n : ℕ) (s : Step) (k : ℕ) → readStep bs ≡ Read s k
     → runReport w bs (suc n) ≡ counted 1 (cond (eqb (rejection w s) 0) 0 1) k (runReport (after w s) (drop k bs) n)
@@ -162,27 +190,16 @@ module _ {w₀ log : List ℕ} {budget : ℕ} {w : List ℕ} {at tried rejected 
 
   pub rest-end : tried < budget → readAt log at ≡ End
       → (reported Ended tried rejected at ≡ runReport w₀ log budget) × (w ≡ afterRun w₀ log budget)
-  rest-end h e =
-      let b : budget - tried ≡ suc (budget - (tried + 1)) = omega arith in
-      stops (ap (λ (n : ℕ). readLog n (drop at log)) b ∙ log-end (budget - (tried + 1)) (drop at log) (read-end log at e))
+  rest-end h e = stops (reads-end log budget at tried h e)
 
   pub rest-damaged : (r : ℕ) → tried < budget → readAt log at ≡ Rejected r
       → (reported (Damaged r) tried rejected at ≡ runReport w₀ log budget) × (w ≡ afterRun w₀ log budget)
-  rest-damaged r h e =
-      let b : budget - tried ≡ suc (budget - (tried + 1)) = omega arith in
-      stops (ap (λ (n : ℕ). readLog n (drop at log)) b ∙ log-damaged (budget - (tried + 1)) (drop at log) r (read-rejected log at r e))
+  rest-damaged r h e = stops (reads-damage log budget at tried r h e)
 
-  -- the budget is used up: ended where no byte is left, else spent
   pub rest-ended : budget ≤ tried → length log ≤ at
       → (reported Ended tried rejected at ≡ runReport w₀ log budget) × (w ≡ afterRun w₀ log budget)
-  unfolding readLog isEmpty
-  rest-ended h l =
-      let b : budget - tried ≡ 0 = omega arith in
-      stops (ap (λ (n : ℕ). readLog n (drop at log)) b ∙ rw (drop-of-length-le log l))
+  rest-ended h l = stops (reads-all log budget at tried h l)
 
   pub rest-spent : budget ≤ tried → at < length log
       → (reported Spent tried rejected at ≡ runReport w₀ log budget) × (w ≡ afterRun w₀ log budget)
-  unfolding readLog isEmpty
-  rest-spent h l =
-      let b : budget - tried ≡ 0 = omega arith in
-      stops (ap (λ (n : ℕ). readLog n (drop at log)) b ∙ rw (drop-cons log at 0 l))
+  rest-spent h l = stops (reads-part log budget at tried h l)

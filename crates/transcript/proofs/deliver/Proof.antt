@@ -1,0 +1,34 @@
+-- `transcript::deliver` meets its contract.
+use mathlib.Core.Path.{sym, _∙_}
+use lib.ListN.{take}
+use Rattle.transcript.proofs.Stores.{sets-kept}
+use Rattle.transcript.proofs.Delivery.{long, too-short, room, delivered}
+use Rattle.transcript.proofs.deliver.Statement.{statement}
+use Rattle.transcript.proofs.deliver.Tie as tie
+
+returns : tie.Need-returns
+returns c = too-short _ _ _ (c .before .before .before .pre) (c .if1 .taken)
+
+slice-aggregate-write-bytes : tie.Need-slice-aggregate-write-bytes
+slice-aggregate-write-bytes c =
+    let s = c .before .before .before .before .before in
+    sym (long (s .args .out .now) (s .args .space .now) (s .args .length) (s .pre))
+
+write-bytes-requires : tie.Need-write-bytes-requires
+write-bytes-requires c κs = room (c .before .before .before .before .before .args .out .now) (c .before .before .before .before .before .args .space .now) (c .before .before .before .before .before .args .length) (c .before .before .before .before .before .pre) (c .before .before .if1 .left)
+
+same-length : tie.Need-same-length
+same-length c =
+    let s = c .before .before .before .before .before .before .before .before in
+    sets-kept (s .args .out .now) 0 (take (s .args .length) (s .args .space .now)) (c .before .before .write-bytes .ensures .1)
+
+returns-2 : tie.Need-returns-2
+returns-2 c =
+    let s = c .before .before .before .before .before .before .before .before in
+    let d = delivered (s .args .out .now) (s .args .space .now) (s .args .length) (s .pre) (c .before .before .before .before .before .if1 .left) in
+    (d .0, c .before .before .write-bytes .ensures .1 ∙ d .1)
+
+pub deliver-spec : {M : Type 1} → statement M
+deliver-spec =
+    tie.close
+    (tie.spec returns slice-aggregate-write-bytes write-bytes-requires same-length returns-2)

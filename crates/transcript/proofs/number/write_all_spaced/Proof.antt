@@ -1,0 +1,56 @@
+-- `transcript::number::write_all_spaced` meets its contract.
+use Prim.Native.Nat.{_-_}
+use borrow.Author.Needs.{needs}
+use lib.ListN.{length}
+use Rattle.transcript.proofs.Stores.{Listed, list-start, list-room, list-more, list-end}
+use Rattle.transcript.proofs.number.write_all_spaced.Statement.{statement}
+use Rattle.transcript.proofs.number.write_all_spaced.Tie as tie
+
+abbrev Inv-loop : tie.InvT-loop
+Inv-loop out₀ at numbers end₀ i₀ out end i = Listed out₀ at numbers out end i
+
+abbrev μ-loop : tie.MeasureT-loop
+μ-loop out₀ at numbers end₀ i₀ out end i = length numbers - i
+
+loop-holds : tie.Need-loop-holds Inv-loop μ-loop
+loop-holds c = list-start _ _ _ (c .before .before .pre)
+
+mul-write-spaced : tie.Need-mul-write-spaced Inv-loop μ-loop
+mul-write-spaced c = search needs
+
+shared-slice-read-write-spaced : tie.Need-shared-slice-read-write-spaced Inv-loop μ-loop
+shared-slice-read-write-spaced c = search needs
+
+write-spaced-requires : tie.Need-write-spaced-requires Inv-loop μ-loop
+write-spaced-requires c κs = list-room (c .before .before .before .loop .inv) (c .before .before .loop-test .taken)
+
+add-i : tie.Need-add-i Inv-loop μ-loop
+add-i c = search needs
+
+loop-less : tie.Need-loop-less Inv-loop μ-loop
+loop-less c = search needs
+
+loop-again : tie.Need-loop-again Inv-loop μ-loop
+loop-again c = list-more (c .before .before .before .before .before .before .loop .inv) (c .before .before .before .before .before .loop-test .taken) (c .before .before .write-spaced .ensures .0) (c .before .before .write-spaced .ensures .1)
+
+same-length : tie.Need-same-length Inv-loop μ-loop
+same-length c = c .before .loop .inv .kept
+
+returns : tie.Need-returns Inv-loop μ-loop
+returns c = list-end (c .before .loop .inv) (c .loop-test .left)
+
+pub write-all-spaced-spec : {M : Type 1} → statement M
+write-all-spaced-spec =
+    tie.close
+    (tie.spec
+    Inv-loop
+    μ-loop
+    loop-holds
+    mul-write-spaced
+    shared-slice-read-write-spaced
+    write-spaced-requires
+    add-i
+    loop-less
+    loop-again
+    same-length
+    returns)

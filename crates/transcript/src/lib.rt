@@ -1,0 +1,40 @@
+// The program's whole text for a log, written into a borrowed output. What it says is in `model`: `Transcript`.
+use model::Writing;
+ghost use mathlib.Core.Path.{_≡_};
+ghost use Prim.Native.Nat.{_≤_};
+ghost use lib.ListN.{length as count, take};
+ghost use Rattle.model.specs.Transcript.{transcript};
+ghost use Rattle.transcript.specs.Text.{textWriting, afterText};
+
+mod bytes;
+pub mod history;
+mod last;
+mod number;
+mod pick;
+mod shards;
+mod steps;
+mod text;
+
+// No text is longer: the law `text-most`.
+pub const MOST: usize = 42232;
+
+// Writes the text of a log: its length, or rejection 8 where the output is too short, which leaves it untouched.
+pub fn transcript(log: &[u8], out: &mut [u8]) -> Writing
+    ensures { λ r. ⌜ (r ≡ textWriting (now (out .entry)) (transcript (now (log .entry)))) × (now (out .exit) ≡ afterText (now (out .entry)) (transcript (now (log .entry)))) ⌝ }
+{
+    let mut space = [0u8; MOST];
+    let length = text::write_text(log, &mut space);
+    deliver(out, &space, length)
+}
+
+// Hands a text, the first `length` bytes of a space, to an output that is long enough.
+fn deliver(out: &mut [u8], space: &[u8], length: usize) -> Writing
+    requires { ⌜ length ≤ count (now space) ⌝ }
+    ensures { λ r. ⌜ (r ≡ textWriting (now (out .entry)) (take length (now (space .entry)))) × (now (out .exit) ≡ afterText (now (out .entry)) (take length (now (space .entry)))) ⌝ }
+{
+    if out.len() < length {
+        return Writing::Rejected(8);
+    }
+    bytes::write_bytes(out, 0, &space[..length]);
+    Writing::Bytes(length)
+}

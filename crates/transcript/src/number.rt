@@ -1,0 +1,68 @@
+// Numbers in decimal.
+ghost use mathlib.Core.Path.{_≡_};
+ghost use Prim.Native.Nat.{_+_, _≤_};
+ghost use lib.ListN.{length};
+ghost use lib.Seq.{sets};
+ghost use Rattle.model.specs.Transcript.{decimal, spaced, spacedAll, newline};
+
+// How many digits a number has.
+pub fn width(n: u64) -> usize
+    ensures { λ r. ⌜ r ≡ length (decimal n) ⌝ }
+{
+    let mut rest = n;
+    let mut digits = 1;
+    while 10 <= rest {
+        rest /= 10;
+        digits += 1;
+    }
+    digits
+}
+
+// Writes a number where the output has room for it, its last digit first, and returns the position after it.
+pub fn write_number(out: &mut [u8], at: usize, n: u64) -> usize
+    requires { ⌜ at + length (decimal n) ≤ length (now out) ⌝ }
+    ensures { λ r. ⌜ (r ≡ at + length (decimal n)) × (now (out .exit) ≡ sets (now (out .entry)) at (decimal n)) ⌝ }
+{
+    let end = at + width(n);
+    let mut rest = n;
+    let mut i = end;
+    while 10 <= rest {
+        i -= 1;
+        out[i] = (48 + rest % 10) as u8;
+        rest /= 10;
+    }
+    out[at] = (48 + rest) as u8;
+    end
+}
+
+// A space and a number.
+pub fn write_spaced(out: &mut [u8], at: usize, n: u64) -> usize
+    requires { ⌜ at + length (spaced n) ≤ length (now out) ⌝ }
+    ensures { λ r. ⌜ (r ≡ at + length (spaced n)) × (now (out .exit) ≡ sets (now (out .entry)) at (spaced n)) ⌝ }
+{
+    out[at] = 32;
+    write_number(out, at + 1, n)
+}
+
+// A space before each of several numbers.
+pub fn write_all_spaced(out: &mut [u8], at: usize, numbers: &[u64]) -> usize
+    requires { ⌜ at + length (spacedAll (now numbers)) ≤ length (now out) ⌝ }
+    ensures { λ r. ⌜ (r ≡ at + length (spacedAll (now (numbers .entry)))) × (now (out .exit) ≡ sets (now (out .entry)) at (spacedAll (now (numbers .entry)))) ⌝ }
+{
+    let mut end = at;
+    let mut i = 0;
+    while i < numbers.len() {
+        end = write_spaced(out, end, numbers[i]);
+        i += 1;
+    }
+    end
+}
+
+// The end of a line.
+pub fn write_newline(out: &mut [u8], at: usize) -> usize
+    requires { ⌜ at + 1 ≤ length (now out) ⌝ }
+    ensures { λ r. ⌜ (r ≡ at + 1) × (now (out .exit) ≡ sets (now (out .entry)) at (newline)) ⌝ }
+{
+    out[at] = 10;
+    at + 1
+}

@@ -1,0 +1,33 @@
+// The line of a shard: its stable history.
+use crate::bytes::write_bytes;
+use crate::number::write_all_spaced;
+use crate::number::write_newline;
+use crate::number::write_spaced;
+use crate::pick::longest;
+ghost use mathlib.Core.Path.{_≡_};
+ghost use Prim.Native.Nat.{_+_, _≤_};
+ghost use lib.ListN.{length};
+ghost use lib.Seq.{sets};
+ghost use Rattle.model.specs.Transcript.{spacedAll, shardLine};
+ghost use Rattle.transcript.specs.Text.{LineRoom, entriesAt, EntriesRoom};
+
+// The word `zone`, the shard's number, and the entries of its stable history.
+pub fn write_shard(out: &mut [u8], at: usize, state: &[u64], shard: u64) -> usize
+    requires { ⌜ LineRoom (now out) at (now state) shard ⌝ }
+    ensures { λ r. ⌜ (r ≡ at + length (shardLine (now (state .entry)) shard)) × (now (out .exit) ≡ sets (now (out .entry)) at (shardLine (now (state .entry)) shard)) ⌝ }
+{
+    let place = longest(state, shard);
+    let a = write_bytes(out, at, b"zone");
+    let b = write_spaced(out, a, shard);
+    let c = write_entries(out, b, state, place);
+    write_newline(out, c)
+}
+
+// The stable prefix of the replica at a place.
+fn write_entries(out: &mut [u8], at: usize, state: &[u64], place: usize) -> usize
+    requires { ⌜ EntriesRoom (now out) at (now state) place ⌝ }
+    ensures { λ r. ⌜ (r ≡ at + length (spacedAll (entriesAt (now (state .entry)) place))) × (now (out .exit) ≡ sets (now (out .entry)) at (spacedAll (entriesAt (now (state .entry)) place))) ⌝ }
+{
+    let count = state[place + 2] as usize;
+    write_all_spaced(out, at, &state[place + 8..place + 8 + count])
+}
