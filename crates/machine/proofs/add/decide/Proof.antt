@@ -1,4 +1,5 @@
 -- `machine::add::decide` meets its contract.
+use native.Mathlib.Omega.{arith}
 use mathlib.Core.Path.{sym, _∙_}
 use borrow.Author.Tests.{not-true, not-false}
 use Rattle.model.specs.Checks.{firstOf}
@@ -87,7 +88,7 @@ returns-5 c =
     full (o .orderer-place .ensures) (o .before .before .before .before .args .e) (m .before .before .if2 .left)
     (sym (m .before .may-issue .ensures) ∙ not-false _ (m .if3 .left))
     (sym (c .before .before .has-entry .ensures) ∙ c .before .if4 .left)
-    (c .if5 .taken)
+    (omega (arith, c .if5 .taken))
 
 returns-6 : tie.Need-returns-6
 returns-6 c =
@@ -96,7 +97,7 @@ returns-6 c =
     accepted (o .orderer-place .ensures) (o .before .before .before .before .args .e) (m .before .before .if2 .left)
     (sym (m .before .may-issue .ensures) ∙ not-false _ (m .if3 .left))
     (sym (c .before .before .has-entry .ensures) ∙ c .before .if4 .left)
-    (c .if5 .left)
+    (omega (arith, c .if5 .left))
 
 pub decide-spec : {M : Type 1} → statement M
 decide-spec =

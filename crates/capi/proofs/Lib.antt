@@ -1,0 +1,4 @@
+-- Laws of the outputs.
+pub mod Reports
+pub mod Counts
+pub mod StepWords

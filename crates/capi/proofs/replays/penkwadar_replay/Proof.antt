@@ -1,0 +1,111 @@
+-- `capi::replays::penkwadar_replay` meets its contract. Each arm writes the words of its stop.
+use mathlib.Core.Path.{refl}
+use native.Mathlib.Omega.{arith}
+use borrow.Author.Needs.{needs}
+use Rattle.model.specs.declared.Stop.the-variants.{Ended, Spent, Damaged, Rejected}
+use Rattle.model.specs.Results.{stopNumber}
+use Rattle.capi.specs.Replays.{stopWords}
+use Rattle.capi.proofs.Reports.{short, stopped}
+use Rattle.capi.proofs.replays.penkwadar_replay.Statement.{statement}
+use Rattle.capi.proofs.replays.penkwadar_replay.Tie as tie
+
+returns : tie.Need-returns
+returns c = short _ _ _ _ (omega (arith, c .if1 .taken))
+
+replay-requires : tie.Need-replay-requires
+replay-requires c κs = search needs
+
+enum-told : tie.Need-enum-told
+enum-told c = search needs
+
+put-report-requires : tie.Need-put-report-requires
+put-report-requires c κs = search needs
+
+enum-told-2 : tie.Need-enum-told-2
+enum-told-2 c = search needs
+
+put-report-requires-2 : tie.Need-put-report-requires-2
+put-report-requires-2 c κs = search needs
+
+enum-known-stop : tie.Need-enum-known-stop
+enum-known-stop c = search needs
+
+put-report-requires-3 : tie.Need-put-report-requires-3
+put-report-requires-3 c κs = search needs
+
+enum-known-stop-2 : tie.Need-enum-known-stop-2
+enum-known-stop-2 c = search needs
+
+same-length : tie.Need-same-length
+same-length c = search needs
+
+same-length-2 : tie.Need-same-length-2
+same-length-2 c = search needs
+
+returns-2 : tie.Need-returns-2
+unfolding stopNumber stopWords
+returns-2 c =
+    let k = c .before .before .before .before in
+    let r = k .before .before .before .before in
+    stopped _ _ _ _ (r .before .before .if1 .left) _ (r .replay .ensures .0) Ended (k .enum-told .given .1) (r .replay .ensures .1) (c .before .before .put-report .ensures)
+
+same-length-3 : tie.Need-same-length-3
+same-length-3 c = search needs
+
+same-length-4 : tie.Need-same-length-4
+same-length-4 c = search needs
+
+returns-3 : tie.Need-returns-3
+unfolding stopNumber stopWords
+returns-3 c =
+    let k = c .before .before .before .before in
+    let r = k .before .before .before .before in
+    stopped _ _ _ _ (r .before .before .if1 .left) _ (r .replay .ensures .0) Spent (k .enum-told2 .given .1) (r .replay .ensures .1) (c .before .before .put-report2 .ensures)
+
+same-length-5 : tie.Need-same-length-5
+same-length-5 c = search needs
+
+same-length-6 : tie.Need-same-length-6
+same-length-6 c = search needs
+
+returns-4 : tie.Need-returns-4
+unfolding stopNumber stopWords
+returns-4 c =
+    let k = c .before .before .before .before .before in
+    let r = k .before .before .before .before in
+    stopped _ _ _ _ (r .before .before .if1 .left) _ (r .replay .ensures .0) (Damaged (k .stop .given .0 .0)) (k .stop .given .1) (r .replay .ensures .1) (c .before .before .put-report3 .ensures)
+
+same-length-7 : tie.Need-same-length-7
+same-length-7 c = search needs
+
+returns-5 : tie.Need-returns-5
+unfolding stopNumber stopWords
+returns-5 c =
+    let k = c .before in
+    let r = k .before .before .before .before in
+    stopped _ _ _ _ (r .before .before .if1 .left) _ (r .replay .ensures .0) (Rejected (k .stop2 .given .0 .0)) (k .stop2 .given .1) (r .replay .ensures .1) refl
+
+pub penkwadar-replay-spec : {M : Type 1} → statement M
+penkwadar-replay-spec =
+    tie.close
+    (tie.spec
+    returns
+    replay-requires
+    enum-told
+    put-report-requires
+    enum-told-2
+    put-report-requires-2
+    enum-known-stop
+    put-report-requires-3
+    enum-known-stop-2
+    same-length
+    same-length-2
+    returns-2
+    same-length-3
+    same-length-4
+    returns-3
+    same-length-5
+    same-length-6
+    returns-4
+    same-length-7
+    returns-5)

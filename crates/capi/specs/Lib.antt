@@ -1,0 +1,7 @@
+-- What the functions for C answer and leave, beyond the definitions of `model`.
+pub mod State
+pub mod Replays
+pub mod Counts
+pub mod Steps
+pub mod Histories
+pub mod Transcripts

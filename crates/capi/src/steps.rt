@@ -1,0 +1,59 @@
+// One step from bytes and to bytes.
+use crate::words::put_step;
+use model::Reading;
+use model::Writing;
+use model::step::Step;
+ghost use mathlib.Core.Path.{_≡_};
+ghost use mathlib.Core.List.{[], _∷_};
+ghost use Rattle.model.specs.Log.{stepOf};
+ghost use Rattle.capi.specs.Steps.{readAnswer, stepAfter, writeAnswer, outAfter, byteCountAfter};
+
+// Reads the step at a position of a log: 0 and its words, all 0 at the end, or the rejection and nothing written.
+#[no_mangle]
+pub extern "C" fn penkwadar_read_step(log: &[u8], at: usize, step: &mut [u64]) -> u64
+    ensures { λ r. ⌜ r ≡ readAnswer (now (log .entry)) at (now (step .entry)) ⌝ }
+    ensures { λ _. ⌜ now (step .exit) ≡ stepAfter (now (log .entry)) at (now (step .entry)) ⌝ }
+{
+    if step.len() < 6 {
+        return 8;
+    }
+    match log::reader::read_step(log, at) {
+        Reading::Step { step: s, next } => {
+            put_step(step, s.kind, s.a, s.b, s.c, s.d, next as u64);
+            0
+        }
+        Reading::End => {
+            put_step(step, 0, 0, 0, 0, 0, 0);
+            0
+        }
+        Reading::Rejected(r) => r,
+    }
+}
+
+// Writes a step at a position of an output: 0 and the count of its bytes, or the rejection and nothing written.
+#[no_mangle]
+pub extern "C" fn penkwadar_write_step(
+    out: &mut [u8],
+    at: usize,
+    kind: u64,
+    a: u64,
+    b: u64,
+    c: u64,
+    d: u64,
+    count: &mut [u64],
+) -> u64
+    ensures { λ r. ⌜ r ≡ writeAnswer (now (out .entry)) at (stepOf kind (a ∷ b ∷ c ∷ d ∷ [])) (now (count .entry)) ⌝ }
+    ensures { λ _. ⌜ now (out .exit) ≡ outAfter (now (out .entry)) at (stepOf kind (a ∷ b ∷ c ∷ d ∷ [])) (now (count .entry)) ⌝ }
+    ensures { λ _. ⌜ now (count .exit) ≡ byteCountAfter (now (out .entry)) at (stepOf kind (a ∷ b ∷ c ∷ d ∷ [])) (now (count .entry)) ⌝ }
+{
+    if count.len() < 1 {
+        return 8;
+    }
+    match log::writer::write_step(out, at, Step { kind, a, b, c, d }) {
+        Writing::Bytes(n) => {
+            count[0] = n as u64;
+            0
+        }
+        Writing::Rejected(r) => r,
+    }
+}

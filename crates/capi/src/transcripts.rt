@@ -1,0 +1,23 @@
+// The program's text for a log.
+use model::Writing;
+ghost use mathlib.Core.Path.{_≡_};
+ghost use Rattle.capi.specs.Transcripts.{textAnswer, textAfter, lengthAfter};
+
+// Writes the program's whole text for a log: 0 and its length, or the rejection and nothing written.
+#[no_mangle]
+pub extern "C" fn penkwadar_transcript(log: &[u8], out: &mut [u8], count: &mut [u64]) -> u64
+    ensures { λ r. ⌜ r ≡ textAnswer (now (log .entry)) (now (out .entry)) (now (count .entry)) ⌝ }
+    ensures { λ _. ⌜ now (out .exit) ≡ textAfter (now (log .entry)) (now (out .entry)) (now (count .entry)) ⌝ }
+    ensures { λ _. ⌜ now (count .exit) ≡ lengthAfter (now (log .entry)) (now (out .entry)) (now (count .entry)) ⌝ }
+{
+    if count.len() < 1 {
+        return 8;
+    }
+    match transcript::transcript(log, out) {
+        Writing::Bytes(n) => {
+            count[0] = n as u64;
+            0
+        }
+        Writing::Rejected(r) => r,
+    }
+}

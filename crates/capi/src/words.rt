@@ -1,0 +1,30 @@
+// Words at the start of an output.
+ghost use mathlib.Core.Path.{_≡_};
+ghost use mathlib.Core.List.{[], _∷_};
+ghost use Prim.Native.Nat.{_≤_};
+ghost use lib.ListN.{length};
+ghost use lib.Seq.{sets};
+
+// The four words of a report.
+pub fn put_report(out: &mut [u64], stop: u64, tried: u64, rejected: u64, bytes: u64)
+    requires { ⌜ 4 ≤ length (now out) ⌝ }
+    ensures { λ _. ⌜ now (out .exit) ≡ sets (now (out .entry)) 0 (stop ∷ tried ∷ rejected ∷ bytes ∷ []) ⌝ }
+{
+    out[0] = stop;
+    out[1] = tried;
+    out[2] = rejected;
+    out[3] = bytes;
+}
+
+// The six words of a step that was read.
+pub fn put_step(out: &mut [u64], kind: u64, a: u64, b: u64, c: u64, d: u64, next: u64)
+    requires { ⌜ 6 ≤ length (now out) ⌝ }
+    ensures { λ _. ⌜ now (out .exit) ≡ sets (now (out .entry)) 0 (kind ∷ a ∷ b ∷ c ∷ d ∷ next ∷ []) ⌝ }
+{
+    out[0] = kind;
+    out[1] = a;
+    out[2] = b;
+    out[3] = c;
+    out[4] = d;
+    out[5] = next;
+}

@@ -1,0 +1,277 @@
+/* The proved machine called from C: two zones, a take that becomes stable, a log, a transcript, rejections.
+ *
+ *     cc -Wall -Wextra -Werror -I include tests/c/main.c target/staticlib/libcapi.a
+ *
+ * Prints one line with the number of checks, and ends with status 1 where one failed. */
+#include <stdio.h>
+#include <stdlib.h>
+#include <string.h>
+
+#include "penkwadar.h"
+
+#define WORDS (2 * PENKWADAR_ZONE_WORDS)
+#define UNWRITTEN 0xeeeeeeeeeeeeeeeeULL
+
+enum { ADD = 1, ADOPT, CONFIRM, WEDGE, INSTALL, INHERIT };
+enum { PENDING = 1, ACTIVE, IMMUTABLE };
+
+static unsigned checks, failed;
+
+static void check(int holds, int line, const char *what)
+{
+    checks++;
+    if (!holds) {
+        failed++;
+        fprintf(stderr, "main.c:%d: %s\n", line, what);
+    }
+}
+
+#define CHECK(condition) check((condition), __LINE__, #condition)
+
+/* Zone 0: sequencer 1, boxes 0 and 1, orderer 0. Zone 1: sequencer 0, boxes 2 and 3, orderer 2. */
+static const uint64_t plan[6] = {1, 3, 0, 0, 12, 2};
+
+/* The log of document 01: add 7, adopt by 1, confirm by both, wedge 0, and an add that comes too late. */
+static const uint8_t sample[26] = {1, 0, 1, 7, 2, 0, 1, 1, 3, 0, 1, 0, 1, 3, 0, 1, 1, 1, 4, 0, 1, 0, 1, 0, 1, 8};
+
+static const char sample_text[] =
+    "1 1 0\n2 2 0\n3 3 0\n4 3 0\n5 4 0\n6 1 12\nzone 0 7\nzone 1\nended 6 1 26\n";
+
+static uint64_t state[WORDS], before[WORDS];
+
+static uint64_t step(uint64_t kind, uint64_t a, uint64_t b, uint64_t c, uint64_t d)
+{
+    memcpy(before, state, sizeof state);
+    return penkwadar_step(state, WORDS, kind, a, b, c, d);
+}
+
+static int state_unchanged(void)
+{
+    return memcmp(before, state, sizeof state) == 0;
+}
+
+static int all_words(const uint64_t *words, size_t count, uint64_t value)
+{
+    for (size_t i = 0; i < count; i++) {
+        if (words[i] != value) {
+            return 0;
+        }
+    }
+    return 1;
+}
+
+static int all_bytes(const uint8_t *bytes, size_t count, uint8_t value)
+{
+    for (size_t i = 0; i < count; i++) {
+        if (bytes[i] != value) {
+            return 0;
+        }
+    }
+    return 1;
+}
+
+/* The first word of a seat of index 1. */
+static const uint64_t *seat(unsigned zone, unsigned number)
+{
+    return state + zone * PENKWADAR_ZONE_WORDS + 64 + number * 64;
+}
+
+static void check_setup(void)
+{
+    CHECK(penkwadar_state_words(1) == 0);
+    CHECK(penkwadar_state_words(2) == WORDS);
+    CHECK(penkwadar_state_words(8) == 8 * PENKWADAR_ZONE_WORDS);
+    CHECK(penkwadar_state_words(9) == 0);
+
+    memset(state, 0xee, sizeof state);
+    CHECK(penkwadar_setup(state, WORDS - 1, plan, 6) == PENKWADAR_STATE_LENGTH);
+    CHECK(penkwadar_setup(state, WORDS, plan, 5) == PENKWADAR_PLAN);
+    const uint64_t bad[6] = {0, 3, 0, 1, 12, 2};
+    CHECK(penkwadar_setup(state, WORDS, bad, 6) == PENKWADAR_PLAN);
+    CHECK(all_words(state, WORDS, UNWRITTEN));
+
+    CHECK(penkwadar_setup(state, WORDS, plan, 6) == 0);
+    CHECK(state[0] == 1 && state[1] == 1 && state[2] == 3 && state[10] == 0);
+    CHECK(state[PENKWADAR_ZONE_WORDS] == 0 && state[PENKWADAR_ZONE_WORDS + 2] == 12);
+    CHECK(seat(0, 0)[0] == ACTIVE && seat(0, 1)[0] == ACTIVE && seat(0, 2)[0] == 0);
+}
+
+/* A take goes through both boxes and becomes stable in each. */
+static void check_take(void)
+{
+    CHECK(step(ADD, 0, 1, 7, 0) == 0);
+    CHECK(seat(0, 0)[1] == 1 && seat(0, 0)[8] == 7);
+    CHECK(step(CONFIRM, 0, 1, 0, 1) == PENKWADAR_NOT_ALIKE && state_unchanged());
+    CHECK(step(ADOPT, 0, 1, 1, 0) == 0);
+    CHECK(seat(0, 1)[1] == 1 && seat(0, 1)[8] == 7 && seat(0, 1)[2] == 0);
+    CHECK(step(CONFIRM, 0, 1, 0, 1) == 0);
+    CHECK(step(CONFIRM, 0, 1, 1, 1) == 0);
+    CHECK(seat(0, 0)[2] == 1 && seat(0, 1)[2] == 1);
+}
+
+static void check_rejected_steps(void)
+{
+    CHECK(step(ADD, 0, 1, 7, 0) == PENKWADAR_ENTRY_HELD && state_unchanged());
+    CHECK(step(ADD, 0, 2, 8, 0) == PENKWADAR_NOT_INSTALLED && state_unchanged());
+    CHECK(step(ADD, 2, 1, 8, 0) == PENKWADAR_RANGE && state_unchanged());
+    CHECK(step(ADOPT, 0, 1, 0, 0) == PENKWADAR_BY_ORDERER && state_unchanged());
+    CHECK(step(ADOPT, 0, 1, 2, 0) == PENKWADAR_NO_MEMBER && state_unchanged());
+    CHECK(step(CONFIRM, 0, 1, 0, 0) == PENKWADAR_NOT_ABOVE_STABLE && state_unchanged());
+    CHECK(step(INSTALL, 1, 1, 0, 0) == PENKWADAR_NO_STABLE_ISSUE && state_unchanged());
+    CHECK(step(INHERIT, 0, 1, 0, 0) == PENKWADAR_ACTING_MODE && state_unchanged());
+    CHECK(step(7, 0, 0, 0, 0) == PENKWADAR_KIND_KEPT && state_unchanged());
+    CHECK(step(0, 0, 0, 0, 0) == PENKWADAR_KIND_UNKNOWN && state_unchanged());
+    /* Boxes 3 and 5 for index 2 of zone 1 are issued by zone 0 only. */
+    CHECK(step(ADD, 1, 1, 4329766952ULL, 0) == PENKWADAR_OTHER_SEQUENCER && state_unchanged());
+    CHECK(penkwadar_step(state, WORDS - 1, WEDGE, 0, 1, 0, 0) == PENKWADAR_STATE_LENGTH && state_unchanged());
+    state[1] = 9;
+    CHECK(step(WEDGE, 0, 1, 0, 0) == PENKWADAR_NOT_WELL_FORMED && state_unchanged());
+    state[1] = 1;
+}
+
+static void check_stable_history(void)
+{
+    uint64_t out[PENKWADAR_LIST_ENTRIES], count[2] = {UNWRITTEN, UNWRITTEN};
+    memset(out, 0xee, sizeof out);
+    CHECK(penkwadar_stable_history(state, WORDS, 0, out, 1, count, 0) == PENKWADAR_OUTPUT_SHORT);
+    CHECK(penkwadar_stable_history(state, WORDS, 0, out, 0, count, 1) == PENKWADAR_OUTPUT_SHORT);
+    CHECK(penkwadar_stable_history(state, WORDS, 2, out, 1, count, 1) == PENKWADAR_RANGE);
+    CHECK(all_words(out, PENKWADAR_LIST_ENTRIES, UNWRITTEN) && all_words(count, 2, UNWRITTEN));
+    CHECK(penkwadar_stable_history(state, WORDS, 0, out, PENKWADAR_LIST_ENTRIES, count, 2) == 0);
+    CHECK(count[0] == 1 && count[1] == UNWRITTEN && out[0] == 7);
+    CHECK(all_words(out + 1, PENKWADAR_LIST_ENTRIES - 1, UNWRITTEN));
+    CHECK(penkwadar_stable_history(state, WORDS, 1, out, 0, count, 1) == 0 && count[0] == 0);
+}
+
+/* Zone 0 issues boxes 3 and 5 for index 2 of zone 1; box 3 starts from the frozen list of box 2. */
+static void check_reconfiguration(void)
+{
+    const uint64_t *heir = state + PENKWADAR_ZONE_WORDS + 64 + 256;
+    CHECK(step(ADD, 0, 1, 4329766952ULL, 0) == 0);
+    CHECK(step(ADOPT, 0, 1, 1, 0) == 0);
+    CHECK(step(CONFIRM, 0, 1, 1, 2) == 0);
+    CHECK(step(ADD, 1, 1, 300, 0) == 0);
+    CHECK(step(INSTALL, 1, 1, 1, 1) == 0);
+    CHECK(state[PENKWADAR_ZONE_WORDS + 1] == 2 && state[PENKWADAR_ZONE_WORDS + 3] == 40);
+    CHECK(heir[0] == PENDING && heir[64] == PENDING && heir[128] == 0);
+    CHECK(step(INHERIT, 1, 2, 3, 2) == PENKWADAR_OTHER_MODE && state_unchanged());
+    CHECK(step(WEDGE, 1, 1, 2, 0) == 0);
+    CHECK(step(INHERIT, 1, 2, 3, 2) == 0);
+    CHECK(heir[0] == ACTIVE && heir[1] == 1 && heir[8] == 300);
+    CHECK(step(INSTALL, 1, 1, 1, 1) == PENKWADAR_NOT_NEXT_INDEX && state_unchanged());
+}
+
+static void check_wedge(void)
+{
+    CHECK(step(WEDGE, 0, 1, 0, 0) == 0);
+    CHECK(seat(0, 0)[0] == IMMUTABLE);
+    CHECK(step(WEDGE, 0, 1, 0, 0) == PENKWADAR_ACTING_MODE && state_unchanged());
+    CHECK(step(ADD, 0, 1, 8, 0) == PENKWADAR_ACTING_MODE && state_unchanged());
+}
+
+static void check_read(void)
+{
+    const uint8_t log[] = {4, 1, 2, 5, 1, 0, 1, 0xac, 2};
+    uint64_t words[7];
+    memset(words, 0xee, sizeof words);
+    CHECK(penkwadar_read_step(log, sizeof log, 0, words, 5) == PENKWADAR_OUTPUT_SHORT);
+    CHECK(penkwadar_read_step(log, 3, 0, words, 7) == PENKWADAR_BYTES_END);
+    CHECK(penkwadar_read_step((const uint8_t[]){0x80, 0}, 2, 0, words, 7) == PENKWADAR_NUMBER_BYTES);
+    CHECK(penkwadar_read_step((const uint8_t[]){31}, 1, 0, words, 7) == PENKWADAR_KIND_KEPT);
+    CHECK(penkwadar_read_step((const uint8_t[]){32}, 1, 0, words, 7) == PENKWADAR_KIND_UNKNOWN);
+    CHECK(all_words(words, 7, UNWRITTEN));
+
+    const uint64_t wedge[6] = {4, 1, 2, 5, 0, 4}, add[6] = {1, 0, 1, 300, 0, 9};
+    CHECK(penkwadar_read_step(log, sizeof log, 0, words, 7) == 0);
+    CHECK(memcmp(words, wedge, sizeof wedge) == 0 && words[6] == UNWRITTEN);
+    CHECK(penkwadar_read_step(log, sizeof log, words[5], words, 7) == 0);
+    CHECK(memcmp(words, add, sizeof add) == 0);
+    CHECK(penkwadar_read_step(log, sizeof log, words[5], words, 7) == 0);
+    CHECK(all_words(words, 6, 0) && words[6] == UNWRITTEN);
+}
+
+static void check_write(void)
+{
+    uint8_t out[8];
+    uint64_t count = UNWRITTEN;
+    memset(out, 0xee, sizeof out);
+    CHECK(penkwadar_write_step(out, 8, 1, ADD, 0, 1, 300, 0, &count, 0) == PENKWADAR_OUTPUT_SHORT);
+    CHECK(penkwadar_write_step(out, 8, 1, 9, 0, 1, 300, 0, &count, 1) == PENKWADAR_KIND_KEPT);
+    CHECK(penkwadar_write_step(out, 8, 1, 99, 0, 1, 300, 0, &count, 1) == PENKWADAR_KIND_UNKNOWN);
+    CHECK(penkwadar_write_step(out, 8, 1, ADD, 0, 1, 300, 1, &count, 1) == PENKWADAR_RANGE);
+    CHECK(penkwadar_write_step(out, 8, 1, ADD, 0, 1, 1ULL << 35, 0, &count, 1) == PENKWADAR_RANGE);
+    CHECK(penkwadar_write_step(out, 8, 4, ADD, 0, 1, 300, 0, &count, 1) == PENKWADAR_OUTPUT_SHORT);
+    CHECK(penkwadar_write_step(out, 8, SIZE_MAX, ADD, 0, 1, 300, 0, &count, 1) == PENKWADAR_OUTPUT_SHORT);
+    CHECK(all_bytes(out, 8, 0xee) && count == UNWRITTEN);
+
+    const uint8_t expected[8] = {0xee, 1, 0, 1, 0xac, 2, 0xee, 0xee};
+    CHECK(penkwadar_write_step(out, 8, 1, ADD, 0, 1, 300, 0, &count, 1) == 0);
+    CHECK(count == 5 && memcmp(out, expected, 8) == 0);
+}
+
+static int report_is(const uint64_t *report, uint64_t stop, uint64_t tried, uint64_t rejected, uint64_t bytes)
+{
+    return report[0] == stop && report[1] == tried && report[2] == rejected && report[3] == bytes &&
+           report[4] == UNWRITTEN;
+}
+
+static void check_replay(void)
+{
+    uint64_t report[5];
+    memset(report, 0xee, sizeof report);
+    CHECK(penkwadar_setup(state, WORDS, plan, 6) == 0);
+    memcpy(before, state, sizeof state);
+    CHECK(penkwadar_replay(state, WORDS, sample, 26, 9, report, 3) == PENKWADAR_OUTPUT_SHORT);
+    CHECK(penkwadar_replay(state, 0, sample, 26, 9, report, 5) == PENKWADAR_STATE_LENGTH);
+    CHECK(state_unchanged());
+    state[3] = before[3] = 1;
+    CHECK(penkwadar_replay(state, WORDS, sample, 26, 9, report, 5) == PENKWADAR_NOT_WELL_FORMED);
+    CHECK(state_unchanged() && all_words(report, 5, UNWRITTEN));
+    state[3] = 0;
+
+    CHECK(penkwadar_replay(state, WORDS, sample, 26, 0, report, 5) == 0);
+    CHECK(report_is(report, PENKWADAR_SPENT, 0, 0, 0));
+    CHECK(penkwadar_replay(state, WORDS, sample, 26, UINT64_MAX, report, 5) == 0);
+    CHECK(report_is(report, PENKWADAR_ENDED, 6, 1, 26));
+    CHECK(seat(0, 0)[0] == IMMUTABLE && seat(0, 0)[2] == 1 && seat(0, 1)[2] == 1);
+
+    /* Bytes that end inside the second step: the first keeps its effect. */
+    CHECK(penkwadar_setup(state, WORDS, plan, 6) == 0);
+    CHECK(penkwadar_replay(state, WORDS, sample, 6, UINT64_MAX, report, 5) == PENKWADAR_BYTES_END);
+    CHECK(report_is(report, PENKWADAR_DAMAGED, 1, 0, 4));
+    CHECK(seat(0, 0)[1] == 1 && seat(0, 1)[1] == 0);
+}
+
+static void check_transcript(void)
+{
+    const size_t length = sizeof sample_text - 1;
+    uint8_t out[100];
+    uint64_t count = UNWRITTEN;
+    memset(out, 0xee, sizeof out);
+    CHECK(penkwadar_transcript(sample, 26, out, 100, &count, 0) == PENKWADAR_OUTPUT_SHORT);
+    CHECK(penkwadar_transcript(sample, 26, out, length - 1, &count, 1) == PENKWADAR_OUTPUT_SHORT);
+    CHECK(all_bytes(out, 100, 0xee) && count == UNWRITTEN);
+    CHECK(penkwadar_transcript(sample, 26, out, 100, &count, 1) == 0);
+    CHECK(count == length && memcmp(out, sample_text, length) == 0);
+    CHECK(all_bytes(out + length, 100 - length, 0xee));
+
+    static const uint8_t long_log[16385];
+    CHECK(penkwadar_transcript(long_log, sizeof long_log, out, 100, &count, 1) == 0);
+    CHECK(count == 9 && memcmp(out, "too long\n", 9) == 0);
+}
+
+int main(void)
+{
+    check_setup();
+    check_take();
+    check_rejected_steps();
+    check_stable_history();
+    check_reconfiguration();
+    check_wedge();
+    check_read();
+    check_write();
+    check_replay();
+    check_transcript();
+    printf("c: %u checks, %u failed\n", checks, failed);
+    return failed == 0 ? EXIT_SUCCESS : EXIT_FAILURE;
+}

@@ -1,0 +1,42 @@
+//! Proved against plain: what is measured, and how.
+
+mod check;
+mod clock;
+mod codec;
+mod replays;
+mod single;
+mod states;
+mod table;
+mod transcripts;
+
+use table::Table;
+
+/// A part of the benchmark: its name, and what measures it.
+type Part = (&'static str, fn() -> Vec<Table>);
+
+const PARTS: [Part; 5] = [
+    ("check", check::tables),
+    ("steps", single::tables),
+    ("codec", codec::tables),
+    ("replays", replays::tables),
+    ("transcripts", transcripts::tables),
+];
+
+/// Measures the named parts, or all where none is named, and prints Markdown.
+pub fn run(names: &[String]) {
+    println!("{INTRODUCTION}");
+    for (name, tables) in PARTS {
+        if names.is_empty() || names.iter().any(|wanted| wanted == name) {
+            tables().iter().for_each(Table::print);
+        }
+    }
+}
+
+const INTRODUCTION: &str = "\
+# Proved against plain
+
+`proved` is the static library, `plain` the Rust implementation in `src/plain`; both run in one process, and either is
+called through one function with the same slices. Each number is the least over many rounds. In a round both sides get
+the same input in the same buffers, restored before each turn, and they take turns in going first. Rust is compiled for
+baseline x86-64.
+";

@@ -1,0 +1,179 @@
+//! Steps of each kind, one by one and as one log.
+
+use std::hint::black_box;
+
+use super::clock::{Case, measure};
+use super::states::{full, installed};
+use super::table::{Table, ns, ratio};
+use crate::interface::{Interface, Plain};
+use crate::step::Step;
+use crate::testing::logs::push_step;
+use crate::testing::random::Random;
+use crate::view::{IMMUTABLE, PENDING, SHARD_WORDS, issue};
+
+/// Steps that are all accepted, one after the other, on a prepared state.
+struct Steps {
+    before: Vec<u64>,
+    words: Vec<u64>,
+    steps: Vec<Step>,
+}
+
+impl Case for Steps {
+    fn restore(&mut self) {
+        self.words.copy_from_slice(&self.before);
+    }
+
+    fn run<I: Interface>(&mut self) -> u64 {
+        let words = black_box(&mut self.words);
+        self.steps.iter().map(|&step| I::step(words, step)).sum()
+    }
+
+    fn units(&self) -> usize {
+        self.steps.len()
+    }
+}
+
+impl Steps {
+    fn new(before: Vec<u64>, steps: Vec<Step>) -> Steps {
+        let mut words = before.clone();
+        for &step in &steps {
+            assert_eq!(Plain::step(&mut words, step), 0, "{step:?} is accepted");
+        }
+        Steps { before, words, steps }
+    }
+}
+
+/// Forty takes go to an empty history, in every configuration.
+fn adds(shards: u64) -> Steps {
+    let take = |index, number: u64| Step::add(shards - 1, index, number * 1_000_003);
+    let steps = (1..=8).flat_map(|index| (1..=40).map(move |number| take(index, number)));
+    Steps::new(installed(shards), steps.collect())
+}
+
+/// Three hosts adopt a full history, in every configuration, ten times.
+fn adopts(random: &mut Random, shards: u64) -> Steps {
+    let once =
+        (1..=8).flat_map(|index| (1..=3).map(move |host| Step::adopt(shards - 1, index, host)));
+    let once: Vec<Step> = once.collect();
+    Steps::new(full(random, shards, 0), once.repeat(10))
+}
+
+/// A host learns of one entry after the other, up to 56, in every configuration.
+fn learns(random: &mut Random, shards: u64) -> Steps {
+    let learn = |index, length| Step::learn(shards - 1, index, 3, length);
+    let steps = (1..=8).flat_map(|index| (1..=56).map(move |length| learn(index, length)));
+    Steps::new(full(random, shards, 0), steps.collect())
+}
+
+/// Every replica of a shard is wedged.
+fn wedges(random: &mut Random, shards: u64) -> Steps {
+    let steps =
+        (1..=8).flat_map(|index| (0..=3).map(move |host| Step::wedge(shards - 1, index, host)));
+    Steps::new(full(random, shards, 0), steps.collect())
+}
+
+/// Each shard's configurations 2 to 8 are installed from the first places of a full stable history.
+fn installs(random: &mut Random, shards: u64) -> Steps {
+    let mut words = super::states::after_setup(super::states::plan(shards));
+    let takes = full(random, shards, 0);
+    let mut steps = Vec::new();
+    for shard in 0..shards {
+        let sequencer = (shard + 1) % shards;
+        let replica = sequencer as usize * SHARD_WORDS + 64;
+        words[replica..][..64].copy_from_slice(&takes[replica..][..64]);
+        words[replica + 2] = 56;
+        for index in 2..=8 {
+            let place = 20 + index;
+            words[replica + 8 + place as usize] = issue(index, shard, 4, 0b1111_0000);
+            steps.push(Step::install(shard, 1, 0, place));
+        }
+    }
+    Steps::new(words, steps)
+}
+
+/// Three pending replicas of each configuration inherit a full history from a wedged one.
+fn inherits(random: &mut Random, shards: u64) -> Steps {
+    let mut words = full(random, shards, 0);
+    let mut steps = Vec::new();
+    let shard = shards - 1;
+    let block = &mut words[shard as usize * SHARD_WORDS + 64..][..2_048];
+    for (j, replicas) in (0..).zip(block.chunks_exact_mut(256)) {
+        replicas[0] = IMMUTABLE;
+        if j > 0 {
+            for host in 1..4 {
+                replicas[host as usize * 64..][..64].fill(0);
+                replicas[host as usize * 64] = PENDING;
+                steps.push(Step::inherit(shard, j + 1, host, 0));
+            }
+        }
+    }
+    Steps::new(words, steps)
+}
+
+/// The same steps in one log.
+struct AsLog {
+    steps: Steps,
+    log: Vec<u8>,
+}
+
+impl Case for AsLog {
+    fn restore(&mut self) {
+        self.steps.restore();
+    }
+
+    fn run<I: Interface>(&mut self) -> u64 {
+        let mut report = [0; 4];
+        let words = black_box(&mut self.steps.words[..]);
+        I::replay(words, black_box(&self.log), u64::MAX, &mut report) + report[2]
+    }
+
+    fn units(&self) -> usize {
+        self.steps.units()
+    }
+}
+
+impl AsLog {
+    fn new(steps: Steps) -> AsLog {
+        let mut log = Vec::new();
+        steps.steps.iter().for_each(|&step| push_step(&mut log, step));
+        AsLog { steps, log }
+    }
+}
+
+fn cases(shards: u64) -> [(&'static str, Steps); 6] {
+    let mut random = Random::new(2);
+    [
+        ("add, empty to 40 entries", adds(shards)),
+        ("adopt, 56 entries", adopts(&mut random, shards)),
+        ("learn, 1 to 56 entries, 4 replicas", learns(&mut random, shards)),
+        ("wedge", wedges(&mut random, shards)),
+        ("install", installs(&mut random, shards)),
+        ("inherit, 56 entries", inherits(&mut random, shards)),
+    ]
+}
+
+pub fn tables() -> Vec<Table> {
+    let mut single = Table::new(
+        "## Single steps\n\nAccepted steps called one by one, each with the whole check of its state, in ns a step.",
+        &["step", "Z", "proved", "plain", "proved/plain"],
+    );
+    for shards in [2, 8] {
+        for (name, mut steps) in cases(shards) {
+            let [proved, plain] = measure(&mut steps);
+            let times = [ns(proved), ns(plain), ratio(proved, plain)];
+            single.row(&[&[name.to_string(), shards.to_string()][..], &times].concat());
+        }
+    }
+    let mut as_log = Table::new(
+        "## The same steps as one log\n\nReplays of these steps at Z = 2, in ns a step: reading, the step, and a share \
+         of one check.",
+        &["step", "steps", "proved", "plain", "proved/plain"],
+    );
+    for (name, steps) in cases(2) {
+        let mut log = AsLog::new(steps);
+        let [proved, plain] = measure(&mut log);
+        let times = [ns(proved), ns(plain), ratio(proved, plain)];
+        as_log.row(&[&[name.to_string(), log.units().to_string()][..], &times].concat());
+    }
+    vec![single, as_log]
+}

@@ -1,0 +1,39 @@
+//! Tables in Markdown.
+
+pub struct Table {
+    title: String,
+    columns: Vec<&'static str>,
+    rows: Vec<Vec<String>>,
+}
+
+impl Table {
+    pub fn new(title: &str, columns: &[&'static str]) -> Table {
+        Table { title: title.to_string(), columns: columns.to_vec(), rows: Vec::new() }
+    }
+
+    pub fn row(&mut self, cells: &[String]) {
+        self.rows.push(cells.to_vec());
+    }
+
+    pub fn print(&self) {
+        println!("{}\n", self.title);
+        println!("| {} |", self.columns.join(" | "));
+        println!("|{}", "---|".repeat(self.columns.len()));
+        for row in &self.rows {
+            println!("| {} |", row.join(" | "));
+        }
+        println!();
+    }
+}
+
+/// Nanoseconds, with a digit more where they are few.
+pub fn ns(time: f64) -> String {
+    match time {
+        time if time < 1_000.0 => format!("{time:.1}"),
+        time => format!("{time:.0}"),
+    }
+}
+
+pub fn ratio(time: f64, to: f64) -> String {
+    format!("{:.2}", time / to)
+}

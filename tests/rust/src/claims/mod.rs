@@ -1,0 +1,125 @@
+//! The claims that are made of every run: one accepted setup, and then any steps.
+//!
+//! A [`Claims`] is told each moment of a run, reads the words itself, and says which claim a moment breaks:
+//! - the stable prefixes of a shard's replicas agree, at one moment and across moments;
+//! - the shard's reference shard can follow: it accepts entries that are offered, none twice, and its history is the
+//!   shard's stable history at every moment;
+//! - no stable prefix shrinks, and no replica vanishes;
+//! - every configuration after the first is the first issue for its shard and index in its sequencer's stable history.
+
+mod reference;
+mod violation;
+
+use crate::step::Step;
+use crate::view::{Replica, View, is_issue_for, issue};
+use reference::Reference;
+pub use violation::Violation;
+
+/// What was seen of a run so far.
+pub struct Claims {
+    /// The words at the last moment.
+    words: Vec<u64>,
+    references: Vec<Reference>,
+}
+
+impl Claims {
+    /// The moment after an accepted setup.
+    pub fn after_setup(words: &[u64]) -> Result<Claims, Violation> {
+        let view = View::new(words);
+        for shard in 0..view.shards() {
+            let fresh = view.all_replicas(shard).all(|replica| replica.history().is_empty());
+            if view.installed(shard) != 1 || !fresh {
+                return Err(Violation::SetupNotEmpty);
+            }
+        }
+        Ok(Claims {
+            words: words.to_vec(),
+            references: (0..view.shards()).map(|_| Reference::default()).collect(),
+        })
+    }
+
+    /// The moment after a step that got this answer.
+    pub fn after_step(&mut self, step: Step, answer: u64, words: &[u64]) -> Result<(), Violation> {
+        if step.kind == 1 && answer == 0 {
+            let [shard, _, entry, _] = step.numbers;
+            self.references[shard as usize].offer(entry);
+        }
+        let changed = self.changed(words);
+        if answer != 0 && !changed.is_empty() {
+            return Err(Violation::ChangedByRejection);
+        }
+        let now = View::new(words);
+        for &shard in &changed {
+            keeps_replicas(View::new(&self.words), now, shard)?;
+            self.follow(now, shard)?;
+            self.remember(now, shard);
+        }
+        for &shard in &changed {
+            self.check_issued(now, shard)?;
+            self.check_issued(now, now.sequenced(shard))?;
+        }
+        Ok(())
+    }
+
+    /// The shards with other words than at the last moment.
+    fn changed(&self, words: &[u64]) -> Vec<u64> {
+        let (before, now) = (View::new(&self.words), View::new(words));
+        (0..now.shards()).filter(|&shard| before.block(shard) != now.block(shard)).collect()
+    }
+
+    /// The history of a shard's reference shard.
+    pub fn reference(&self, shard: u64) -> &[u64] {
+        self.references[shard as usize].history()
+    }
+
+    /// The reference shard accepts what became stable; then every stable prefix begins its history.
+    fn follow(&mut self, now: View, shard: u64) -> Result<(), Violation> {
+        let reference = &mut self.references[shard as usize];
+        reference.follow(longest_stable(now, shard))?;
+        match now
+            .all_replicas(shard)
+            .all(|replica| reference.history().starts_with(replica.stable()))
+        {
+            true => Ok(()),
+            false => Err(Violation::Disagrees),
+        }
+    }
+
+    fn remember(&mut self, now: View, shard: u64) {
+        let block = now.block(shard);
+        self.words[shard as usize * block.len()..][..block.len()].copy_from_slice(block);
+    }
+
+    /// Every configuration of a shard after its first is the first issue for it.
+    fn check_issued(&self, now: View, shard: u64) -> Result<(), Violation> {
+        let stable = self.reference(now.sequencer(shard));
+        for index in 2..=now.installed(shard) {
+            let first = stable.iter().find(|&&entry| is_issue_for(entry, shard, index));
+            let (orderer, members) = (now.orderer(shard, index), now.members(shard, index));
+            if first != Some(&issue(index, shard, orderer, members)) {
+                return Err(Violation::NotFirstIssue);
+            }
+        }
+        Ok(())
+    }
+}
+
+/// Every replica is still there, and its stable prefix begins the one that it has now.
+fn keeps_replicas(before: View, now: View, shard: u64) -> Result<(), Violation> {
+    for old in before.all_replicas(shard) {
+        let new = now.replica(shard, old.index, old.host).ok_or(Violation::Vanished)?;
+        if !new.stable().starts_with(old.stable()) {
+            return Err(Violation::Shrinks);
+        }
+    }
+    Ok(())
+}
+
+/// Of equally long stable prefixes the lowest index's, then the lowest replica's.
+fn longest_stable<'a>(view: View<'a>, shard: u64) -> &'a [u64] {
+    let longer = |longest: &'a [u64], replica: Replica<'a>| match replica.stable() {
+        stable if stable.len() > longest.len() => stable,
+        _ => longest,
+    };
+    view.all_replicas(shard).fold(&[], longer)
+}

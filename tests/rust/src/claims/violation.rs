@@ -1,0 +1,21 @@
+//! Which claim a moment breaks.
+
+#[derive(Clone, Copy, Debug, PartialEq, Eq, Hash)]
+pub enum Violation {
+    /// Something is there right after setup.
+    SetupNotEmpty,
+    /// A rejected step changed the state.
+    ChangedByRejection,
+    /// A replica of an installed configuration is gone.
+    Vanished,
+    /// A replica's stable prefix lost or changed an entry.
+    Shrinks,
+    /// Two stable prefixes of a shard, at this or at an earlier moment, do not begin one another.
+    Disagrees,
+    /// An entry became stable that no accepted add offered.
+    NotOffered,
+    /// An entry became stable twice.
+    Twice,
+    /// A configuration is not the first issue for its shard and index.
+    NotFirstIssue,
+}

@@ -1,0 +1,161 @@
+//! The C header's functions over slices, as a trait of both implementations.
+//!
+//! Tests compare the two through it: one number as the answer, and everything else in buffers. The benchmark measures
+//! them through it: either side pays one call.
+
+use crate::rejection::{Rejection, number_of};
+use crate::report::{Report, Stop};
+use crate::step::Step;
+use crate::{plain, proved::ffi};
+
+pub trait Interface {
+    fn state_words(shards: u64) -> u64;
+    fn setup(state: &mut [u64], plan: &[u64]) -> u64;
+    fn step(state: &mut [u64], step: Step) -> u64;
+    fn replay(state: &mut [u64], log: &[u8], budget: u64, report: &mut [u64]) -> u64;
+    fn read_step(log: &[u8], at: usize, step: &mut [u64]) -> u64;
+    fn write_step(out: &mut [u8], at: usize, step: Step, count: &mut [u64]) -> u64;
+    fn stable_history(state: &[u64], shard: u64, out: &mut [u64], count: &mut [u64]) -> u64;
+    fn transcript(log: &[u8], out: &mut [u8], count: &mut [u64]) -> u64;
+}
+
+/// The proved machine.
+pub struct Proved;
+
+impl Interface for Proved {
+    #[inline]
+    fn state_words(shards: u64) -> u64 {
+        ffi::state_words(shards)
+    }
+
+    #[inline]
+    fn setup(state: &mut [u64], plan: &[u64]) -> u64 {
+        ffi::setup(state, plan)
+    }
+
+    #[inline]
+    fn step(state: &mut [u64], step: Step) -> u64 {
+        ffi::step(state, step)
+    }
+
+    #[inline]
+    fn replay(state: &mut [u64], log: &[u8], budget: u64, report: &mut [u64]) -> u64 {
+        ffi::replay(state, log, budget, report)
+    }
+
+    #[inline]
+    fn read_step(log: &[u8], at: usize, step: &mut [u64]) -> u64 {
+        ffi::read_step(log, at, step)
+    }
+
+    #[inline]
+    fn write_step(out: &mut [u8], at: usize, step: Step, count: &mut [u64]) -> u64 {
+        ffi::write_step(out, at, step, count)
+    }
+
+    #[inline]
+    fn stable_history(state: &[u64], shard: u64, out: &mut [u64], count: &mut [u64]) -> u64 {
+        ffi::stable_history(state, shard, out, count)
+    }
+
+    #[inline]
+    fn transcript(log: &[u8], out: &mut [u8], count: &mut [u64]) -> u64 {
+        ffi::transcript(log, out, count)
+    }
+}
+
+/// The plain implementation.
+pub struct Plain;
+
+impl Interface for Plain {
+    #[inline(never)]
+    fn state_words(shards: u64) -> u64 {
+        plain::state_words(shards)
+    }
+
+    #[inline(never)]
+    fn setup(state: &mut [u64], plan: &[u64]) -> u64 {
+        number_of(&plain::setup(state, plan))
+    }
+
+    #[inline(never)]
+    fn step(state: &mut [u64], step: Step) -> u64 {
+        number_of(&plain::step(state, step))
+    }
+
+    #[inline(never)]
+    fn replay(state: &mut [u64], log: &[u8], budget: u64, report: &mut [u64]) -> u64 {
+        let Some(report) = report.first_chunk_mut() else {
+            return Rejection::OutputShort.number();
+        };
+        match plain::replay(state, log, budget) {
+            Ok(told) => {
+                *report = report_words(&told);
+                damage(told.stop)
+            }
+            Err(rejection) => rejection.number(),
+        }
+    }
+
+    #[inline(never)]
+    fn read_step(log: &[u8], at: usize, step: &mut [u64]) -> u64 {
+        let Some(words) = step.first_chunk_mut() else {
+            return Rejection::OutputShort.number();
+        };
+        let read = plain::read_step(log, at);
+        match read {
+            Ok(None) => *words = [0; 6],
+            Ok(Some((step, after))) => *words = step_words(step, after),
+            Err(_) => (),
+        }
+        number_of(&read)
+    }
+
+    #[inline(never)]
+    fn write_step(out: &mut [u8], at: usize, step: Step, count: &mut [u64]) -> u64 {
+        counted(count, || plain::write_step(out, at, step))
+    }
+
+    #[inline(never)]
+    fn stable_history(state: &[u64], shard: u64, out: &mut [u64], count: &mut [u64]) -> u64 {
+        counted(count, || plain::stable_history(state, shard, out))
+    }
+
+    #[inline(never)]
+    fn transcript(log: &[u8], out: &mut [u8], count: &mut [u64]) -> u64 {
+        counted(count, || plain::transcript(log, out))
+    }
+}
+
+fn report_words(report: &Report) -> [u64; 4] {
+    let stop = match report.stop {
+        Stop::Ended => 0,
+        Stop::Spent => 1,
+        Stop::Damaged(_) => 2,
+    };
+    [stop, report.tried, report.rejected, report.bytes]
+}
+
+fn damage(stop: Stop) -> u64 {
+    match stop {
+        Stop::Damaged(damage) => damage.number(),
+        Stop::Ended | Stop::Spent => 0,
+    }
+}
+
+fn step_words(step: Step, after: usize) -> [u64; 6] {
+    let [a, b, c, d] = step.numbers;
+    [step.kind, a, b, c, d, after as u64]
+}
+
+/// Makes a call whose count goes to the first word of `count`, if there is one.
+fn counted(count: &mut [u64], call: impl FnOnce() -> Result<usize, Rejection>) -> u64 {
+    let Some(count) = count.first_mut() else {
+        return Rejection::OutputShort.number();
+    };
+    let answer = call();
+    if let Ok(length) = answer {
+        *count = length as u64;
+    }
+    number_of(&answer)
+}

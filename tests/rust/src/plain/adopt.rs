@@ -1,0 +1,30 @@
+use super::configuration::installed;
+use super::layout::*;
+use super::state::State;
+use crate::rejection::Rejection;
+
+impl State<'_> {
+    /// The orderer's history replaces the host's.
+    pub(super) fn adopt(&mut self, shard: usize, index: u64, host: u64) -> Result<(), Rejection> {
+        let shard = &mut self.shards[shard];
+        let (configuration, first) = installed(shard, index).ok_or(Rejection::NotInstalled)?;
+        let at = first + configuration.replica(host).ok_or(Rejection::NoMember)?;
+        if host == configuration.orderer {
+            return Err(Rejection::ByOrderer);
+        }
+        let replicas = replicas_mut(shard);
+        let orderer = first + configuration.orderer_replica();
+        if replicas[at][MODE] != ACTIVE {
+            return Err(Rejection::ActingMode);
+        }
+        if replicas[orderer][MODE] == PENDING {
+            return Err(Rejection::OtherMode);
+        }
+        let own = replicas[at][STABLE];
+        replicas.copy_within(orderer..=orderer, at);
+        let replica = &mut replicas[at];
+        replica[MODE] = ACTIVE;
+        replica[STABLE] = own.max(replica[STABLE]).min(replica[LENGTH]);
+        Ok(())
+    }
+}

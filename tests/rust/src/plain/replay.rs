@@ -1,0 +1,44 @@
+//! A log's steps, tried in order.
+
+use super::reader::read_step;
+use super::state::State;
+use crate::rejection::Rejection;
+use crate::report::{Report, Stop};
+use crate::step::Step;
+
+/// Scans the state once, then reads and tries steps, as many as the budget allows.
+pub fn replay(words: &mut [u64], log: &[u8], budget: u64) -> Result<Report, Rejection> {
+    Ok(State::check(words)?.replay(log, budget, |_, _| ()))
+}
+
+impl State<'_> {
+    /// Hands each step that is tried to `tell`, with its answer.
+    pub fn replay(
+        &mut self,
+        log: &[u8],
+        budget: u64,
+        mut tell: impl FnMut(Step, Result<(), Rejection>),
+    ) -> Report {
+        let (mut at, mut tried, mut rejected) = (0, 0, 0);
+        let stop = loop {
+            if at >= log.len() {
+                break Stop::Ended;
+            }
+            if tried == budget {
+                break Stop::Spent;
+            }
+            match read_step(log, at) {
+                Ok(None) => break Stop::Ended,
+                Err(damage) => break Stop::Damaged(damage),
+                Ok(Some((step, after))) => {
+                    let answer = self.step(step);
+                    tell(step, answer);
+                    tried += 1;
+                    rejected += u64::from(answer.is_err());
+                    at = after;
+                }
+            }
+        };
+        Report { stop, tried, rejected, bytes: at as u64 }
+    }
+}

@@ -1,0 +1,26 @@
+//! A borrowed state that is known to be well-formed.
+
+use super::layout::{Shard, shard_count};
+use super::wellformed::are_well_formed;
+use crate::rejection::Rejection;
+
+/// Only `check` makes one, and every change through it leaves it well-formed.
+pub struct State<'a> {
+    pub(super) shards: &'a mut [Shard],
+}
+
+impl<'a> State<'a> {
+    /// Scans the words once: rejections 1 and 9.
+    pub fn check(words: &'a mut [u64]) -> Result<State<'a>, Rejection> {
+        shard_count(words.len()).ok_or(Rejection::StateLength)?;
+        let shards = words.as_chunks_mut().0;
+        match are_well_formed(shards) {
+            true => Ok(State { shards }),
+            false => Err(Rejection::NotWellFormed),
+        }
+    }
+
+    pub fn words(&self) -> &[u64] {
+        self.shards.as_flattened()
+    }
+}

@@ -1,0 +1,151 @@
+//! Calls of both implementations. Each compares the answers and every element of every buffer, and gives the answer.
+
+use super::twin::Twin;
+use crate::interface::{Interface, Plain, Proved};
+use crate::step::Step;
+
+/// What an output holds before a call.
+const UNWRITTEN: u64 = 0xdead_beef_dead_beef;
+
+fn alike(plain: u64, proved: u64, call: &dyn std::fmt::Debug) -> u64 {
+    assert_eq!(plain, proved, "answers of plain and proved to {call:?}");
+    plain
+}
+
+pub fn state_words(shards: u64) -> u64 {
+    let (plain, proved) = (Plain::state_words(shards), Proved::state_words(shards));
+    alike(plain, proved, &("state_words", shards))
+}
+
+pub fn setup(state: &mut Twin<u64>, plan: &[u64]) -> u64 {
+    let (plain, proved) = state.both();
+    let call = ("setup", plan);
+    let answer = alike(Plain::setup(plain, plan), Proved::setup(proved, plan), &call);
+    state.settle(answer != 0, &call);
+    answer
+}
+
+pub fn step(state: &mut Twin<u64>, step: Step) -> u64 {
+    let (plain, proved) = state.both();
+    let answer = alike(Plain::step(plain, step), Proved::step(proved, step), &step);
+    state.settle(answer != 0, &step);
+    answer
+}
+
+/// How a replay went.
+#[derive(Clone, Copy, Debug, PartialEq, Eq)]
+pub struct Replayed {
+    /// 0, a rejection, or where it was damaged the number of the damage.
+    pub answer: u64,
+    /// How it stopped, steps tried, those rejected, bytes read; nothing where it was rejected.
+    pub report: Option<[u64; 4]>,
+}
+
+pub fn replay(state: &mut Twin<u64>, log: &[u8], budget: u64) -> Replayed {
+    replay_into(state, log, budget, 5)
+}
+
+/// A replay whose report has so many words.
+pub fn replay_into(state: &mut Twin<u64>, log: &[u8], budget: u64, report_len: usize) -> Replayed {
+    let call = ("replay", log, budget, report_len);
+    let mut report = Twin::filled(report_len, UNWRITTEN);
+    let (plain, proved) = state.both();
+    let (plain_report, proved_report) = report.both();
+    let answer = alike(
+        Plain::replay(plain, log, budget, plain_report),
+        Proved::replay(proved, log, budget, proved_report),
+        &call,
+    );
+    let rejected = matches!(answer, 1 | 8 | 9);
+    state.settle(rejected, &call);
+    report.settle(rejected, &call);
+    let written = report.get().first_chunk().copied();
+    Replayed { answer, report: written.filter(|_| !rejected) }
+}
+
+/// A read: the six words where there was a step or the end.
+pub fn read_step(log: &[u8], at: usize) -> Result<[u64; 6], u64> {
+    read_step_into(log, at, 7)
+}
+
+/// A read whose output has so many words.
+pub fn read_step_into(log: &[u8], at: usize, step_len: usize) -> Result<[u64; 6], u64> {
+    let call = ("read_step", log, at, step_len);
+    let mut words = Twin::filled(step_len, UNWRITTEN);
+    let (plain, proved) = words.both();
+    let answer = alike(Plain::read_step(log, at, plain), Proved::read_step(log, at, proved), &call);
+    words.settle(answer != 0, &call);
+    match answer {
+        0 => Ok(*words.get().first_chunk().expect("six words")),
+        rejection => Err(rejection),
+    }
+}
+
+/// A call that writes to `out` and counts in the first of `count_len` words.
+fn counted<T: super::twin::Element>(
+    out: &mut Twin<T>,
+    count_len: usize,
+    call: &dyn std::fmt::Debug,
+    plain: impl Fn(&mut [T], &mut [u64]) -> u64,
+    proved: impl Fn(&mut [T], &mut [u64]) -> u64,
+) -> Result<usize, u64> {
+    let mut count = Twin::filled(count_len, UNWRITTEN);
+    let (plain_out, proved_out) = out.both();
+    let (plain_count, proved_count) = count.both();
+    let answer = alike(plain(plain_out, plain_count), proved(proved_out, proved_count), call);
+    out.settle(answer != 0, call);
+    count.settle(answer != 0, call);
+    match answer {
+        0 => Ok(count.get()[0] as usize),
+        rejection => Err(rejection),
+    }
+}
+
+/// A write: the count of bytes, or the rejection.
+pub fn write_step(
+    out: &mut Twin<u8>,
+    at: usize,
+    step: Step,
+    count_len: usize,
+) -> Result<usize, u64> {
+    let call = ("write_step", out.get().len(), at, step, count_len);
+    counted(
+        out,
+        count_len,
+        &call,
+        |out, count| Plain::write_step(out, at, step, count),
+        |out, count| Proved::write_step(out, at, step, count),
+    )
+}
+
+/// The count of entries copied, or the rejection. The state is compared as well: it is only read.
+pub fn stable_history(
+    state: &mut Twin<u64>,
+    shard: u64,
+    out: &mut Twin<u64>,
+    count_len: usize,
+) -> Result<usize, u64> {
+    let call = ("stable_history", shard, out.get().len(), count_len);
+    let (plain, proved) = state.both();
+    let answer = counted(
+        out,
+        count_len,
+        &call,
+        |out, count| Plain::stable_history(plain, shard, out, count),
+        |out, count| Proved::stable_history(proved, shard, out, count),
+    );
+    state.settle(true, &call);
+    answer
+}
+
+/// The length of the text, or the rejection.
+pub fn transcript(log: &[u8], out: &mut Twin<u8>, count_len: usize) -> Result<usize, u64> {
+    let call = ("transcript", log.len(), out.get().len(), count_len);
+    counted(
+        out,
+        count_len,
+        &call,
+        |out, count| Plain::transcript(log, out, count),
+        |out, count| Proved::transcript(log, out, count),
+    )
+}

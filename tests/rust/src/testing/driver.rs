@@ -1,0 +1,143 @@
+//! Drives a state through random calls of both implementations.
+
+use super::asides;
+use super::both;
+use super::coverage::Coverage;
+use super::logs;
+use super::plans::plan;
+use super::random::Random;
+use super::singly::singly;
+use super::steps::any_step;
+use super::temper::Temper;
+use super::tried::{Tried, caps};
+use super::twin::Twin;
+use crate::claims::Claims;
+use crate::plain;
+use crate::view::{HISTORY, SHARD_WORDS, View};
+
+pub struct Driver<'a> {
+    pub random: &'a mut Random,
+    coverage: &'a mut Coverage,
+    temper: Temper,
+    state: Twin<u64>,
+    /// Only runs from setup have claims.
+    claims: Option<Claims>,
+}
+
+impl<'a> Driver<'a> {
+    /// A run: one accepted setup, over words that hold anything.
+    pub fn from_setup(random: &'a mut Random, coverage: &'a mut Coverage) -> Driver<'a> {
+        let shards = shards(random);
+        let plan = plan(random, shards);
+        let mut state = Twin::filled(shards as usize * SHARD_WORDS, random.word());
+        let answer = both::setup(&mut state, &plan);
+        assert_eq!(answer, 0, "setup of {plan:?}");
+        coverage.answer(answer);
+        let claims = Claims::after_setup(state.get()).expect("the claims after setup");
+        Driver { temper: Temper::any(random), random, coverage, state, claims: Some(claims) }
+    }
+
+    /// Calls on borrowed words that need not come from any setup.
+    pub fn from_words(
+        random: &'a mut Random,
+        coverage: &'a mut Coverage,
+        words: &[u64],
+    ) -> Driver<'a> {
+        Driver {
+            temper: Temper::any(random),
+            random,
+            coverage,
+            state: Twin::new(words),
+            claims: None,
+        }
+    }
+
+    /// Makes calls until about so many steps more were tried.
+    pub fn go(&mut self, steps: u64) {
+        let end = self.coverage.steps + steps;
+        while self.coverage.steps < end {
+            match self.random.below(200) {
+                0 => asides::any(self.random, self.coverage, &mut self.state),
+                1..=4 => self.look(),
+                _ if self.random.chance(self.temper.replays) => self.replay(),
+                _ => self.step(),
+            }
+        }
+        self.look();
+    }
+
+    fn step(&mut self) {
+        let step = any_step(self.random, View::new(self.state.get()), &self.temper);
+        let capped = caps(View::new(self.state.get()), step);
+        let answer = both::step(&mut self.state, step);
+        let tried = Tried { step, answer, capped };
+        note(self.coverage, &mut self.claims, tried, self.state.get());
+    }
+
+    /// A log run, and the same steps called singly.
+    fn replay(&mut self) {
+        let log = self.log();
+        let budget = match self.random.below(5) {
+            0 => self.random.below(40),
+            _ => u64::MAX,
+        };
+        let mut words = self.state.get().to_vec();
+        let (coverage, claims) = (&mut *self.coverage, &mut self.claims);
+        let expected = singly(&mut words, &log, budget, |tried, words| {
+            note(coverage, claims, tried, words);
+        });
+        let replayed = both::replay(&mut self.state, &log, budget);
+        assert_eq!(replayed, expected, "report against single steps");
+        assert!(self.state.get() == words, "state against single steps");
+        self.coverage.answer(replayed.answer);
+        self.coverage.stops[replayed.report.expect("a report")[0] as usize] += 1;
+    }
+
+    /// A log of steps that mostly can be accepted one after the other; some logs are spoiled.
+    fn log(&mut self) -> Vec<u8> {
+        let length = match self.random.below(20) {
+            0 => self.random.below(300),
+            _ => self.random.below(30),
+        };
+        let mut words = self.state.get().to_vec();
+        let mut state = plain::State::check(&mut words).expect("a well-formed state");
+        let mut log = Vec::new();
+        for _ in 0..length {
+            let step = any_step(self.random, View::new(state.words()), &self.temper);
+            if logs::is_writable(step) {
+                // An answer is no matter here: the state only leads to the next step.
+                let _ = state.step(step);
+                logs::push_step(&mut log, step);
+            }
+        }
+        if self.random.chance(25) {
+            logs::spoil(self.random, &mut log);
+        }
+        log
+    }
+
+    /// Looks at a shard's stable history: in a run it is that of the reference shard.
+    fn look(&mut self) {
+        let shard = self.random.below(View::new(self.state.get()).shards());
+        let mut out = Twin::filled(HISTORY, u64::MAX);
+        let length = both::stable_history(&mut self.state, shard, &mut out, 1).expect("a history");
+        if let Some(claims) = &self.claims {
+            assert_eq!(&out.get()[..length], claims.reference(shard), "shard {shard}");
+        }
+    }
+}
+
+/// Two shards most often, since states of many shards take longer.
+fn shards(random: &mut Random) -> u64 {
+    2 + random.weighted(&[40, 25, 12, 8, 5, 5, 5]) as u64
+}
+
+fn note(coverage: &mut Coverage, claims: &mut Option<Claims>, tried: Tried, words: &[u64]) {
+    let Tried { step, answer, capped } = tried;
+    coverage.step(step, answer, words);
+    coverage.capped += u64::from(capped && answer == 0);
+    if let Some(claims) = claims {
+        let kept = claims.after_step(step, answer, words);
+        assert_eq!(kept, Ok(()), "a claim after {step:?} with answer {answer}");
+    }
+}

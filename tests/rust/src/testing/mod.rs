@@ -1,0 +1,19 @@
+//! What the tests and the benchmark share.
+
+mod asides;
+pub mod both;
+pub mod coverage;
+pub mod driver;
+mod likely;
+pub mod logs;
+pub mod plans;
+pub mod random;
+pub mod settings;
+mod singly;
+pub mod states;
+pub mod steps;
+pub mod temper;
+mod tried;
+pub mod twin;
+pub mod vectors;
+pub mod wrong;

@@ -1,0 +1,71 @@
+//! Random well-formed states that no run from setup needs to reach.
+
+use super::plans::{configuration, sequencers};
+use super::random::Random;
+use crate::view::{ACTIVE, HISTORY, IMMUTABLE, PENDING, SHARD_WORDS, issue};
+
+/// A well-formed state of so many shards.
+pub fn well_formed(random: &mut Random, shards: u64) -> Vec<u64> {
+    let mut words = vec![0; shards as usize * SHARD_WORDS];
+    let sequencers = sequencers(random, shards);
+    for (block, sequencer) in words.chunks_exact_mut(SHARD_WORDS).zip(sequencers) {
+        block[0] = sequencer;
+        write_shard(random, block, shards);
+    }
+    words
+}
+
+fn write_shard(random: &mut Random, block: &mut [u64], shards: u64) {
+    let installed = random.within(1..=8) as usize;
+    block[1] = installed as u64;
+    for j in 0..installed {
+        let (members, orderer) = configuration(random);
+        block[2 + j] = members;
+        block[10 + j] = orderer;
+        let histories = histories(random, shards);
+        let replicas = block[64 + 256 * j..].chunks_exact_mut(64);
+        for replica in replicas.take(members.count_ones() as usize) {
+            let mode = random.within(if j == 0 { ACTIVE } else { PENDING }..=IMMUTABLE);
+            replica[0] = mode;
+            if mode != PENDING {
+                write_history(random, replica, &histories);
+            }
+        }
+    }
+}
+
+/// Two histories of one configuration, often long and often alike at first.
+fn histories(random: &mut Random, shards: u64) -> [Vec<u64>; 2] {
+    let first: Vec<u64> = (0..HISTORY).map(|_| entry(random, shards)).collect();
+    let mut second = first.clone();
+    if random.chance(50) {
+        let from = random.place(HISTORY);
+        second[from..].fill_with(|| entry(random, shards));
+    }
+    [first, second]
+}
+
+fn write_history(random: &mut Random, replica: &mut [u64], histories: &[Vec<u64>; 2]) {
+    let length = match random.below(5) {
+        0 => HISTORY as u64,
+        1 => random.below(3),
+        2 => random.within(54..=56),
+        _ => random.below(57),
+    };
+    let history = &histories[usize::from(random.chance(30))];
+    replica[1] = length;
+    replica[2] = random.within(0..=length);
+    replica[8..][..length as usize].copy_from_slice(&history[..length as usize]);
+}
+
+/// Any proper entry; issues of low index are many, so that rivals occur.
+pub fn entry(random: &mut Random, shards: u64) -> u64 {
+    match random.below(4) {
+        0 => random.within(1..=30),
+        1 => random.within(1..=u64::from(u32::MAX)),
+        _ => {
+            let (members, orderer) = configuration(random);
+            issue(random.within(2..=8), random.below(shards), orderer, members)
+        }
+    }
+}

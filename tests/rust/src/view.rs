@@ -1,0 +1,108 @@
+//! A well-formed state as it is read off its words. Shards count from 0, indices from 1, as in document 01.
+
+pub const SHARD_WORDS: usize = 2112;
+pub const HISTORY: usize = 56;
+pub const PENDING: u64 = 1;
+pub const ACTIVE: u64 = 2;
+pub const IMMUTABLE: u64 = 3;
+
+/// Reads words that hold a well-formed state.
+#[derive(Clone, Copy)]
+pub struct View<'a> {
+    words: &'a [u64],
+}
+
+/// One replica, and which it is.
+#[derive(Clone, Copy)]
+pub struct Replica<'a> {
+    pub index: u64,
+    pub host: u64,
+    words: &'a [u64],
+}
+
+impl<'a> View<'a> {
+    pub fn new(words: &'a [u64]) -> View<'a> {
+        View { words }
+    }
+
+    pub fn shards(self) -> u64 {
+        (self.words.len() / SHARD_WORDS) as u64
+    }
+
+    /// The words of one shard.
+    pub fn block(self, shard: u64) -> &'a [u64] {
+        &self.words[shard as usize * SHARD_WORDS..][..SHARD_WORDS]
+    }
+
+    pub fn sequencer(self, shard: u64) -> u64 {
+        self.block(shard)[0]
+    }
+
+    /// The shard whose configurations this shard issues.
+    pub fn sequenced(self, shard: u64) -> u64 {
+        (0..self.shards())
+            .find(|&other| self.sequencer(other) == shard)
+            .expect("every shard is a sequencer")
+    }
+
+    pub fn installed(self, shard: u64) -> u64 {
+        self.block(shard)[1]
+    }
+
+    pub fn members(self, shard: u64, index: u64) -> u64 {
+        self.block(shard)[1 + index as usize]
+    }
+
+    pub fn orderer(self, shard: u64, index: u64) -> u64 {
+        self.block(shard)[9 + index as usize]
+    }
+
+    /// The hosts of an installed configuration, lowest first.
+    pub fn hosts(self, shard: u64, index: u64) -> impl Iterator<Item = u64> {
+        let members = self.members(shard, index);
+        (0..16).filter(move |host| members >> host & 1 == 1)
+    }
+
+    /// The replicas of an installed configuration.
+    pub fn replicas(self, shard: u64, index: u64) -> impl Iterator<Item = Replica<'a>> {
+        let first = 64 + (index as usize - 1) * 256;
+        let parts = self.block(shard)[first..][..256].chunks_exact(64);
+        self.hosts(shard, index).zip(parts).map(move |(host, words)| Replica { index, host, words })
+    }
+
+    /// The replicas of all installed configurations of a shard.
+    pub fn all_replicas(self, shard: u64) -> impl Iterator<Item = Replica<'a>> {
+        (1..=self.installed(shard)).flat_map(move |index| self.replicas(shard, index))
+    }
+
+    pub fn replica(self, shard: u64, index: u64, host: u64) -> Option<Replica<'a>> {
+        if !(1..=self.installed(shard)).contains(&index) {
+            return None;
+        }
+        self.replicas(shard, index).find(|replica| replica.host == host)
+    }
+}
+
+impl<'a> Replica<'a> {
+    pub fn mode(self) -> u64 {
+        self.words[0]
+    }
+
+    pub fn history(self) -> &'a [u64] {
+        &self.words[8..][..self.words[1] as usize]
+    }
+
+    pub fn stable(self) -> &'a [u64] {
+        &self.words[8..][..self.words[2] as usize]
+    }
+}
+
+/// The word of an issue.
+pub fn issue(index: u64, shard: u64, orderer: u64, members: u64) -> u64 {
+    (1 << 32) + (index << 24) + (shard << 20) + (orderer << 16) + members
+}
+
+/// Whether a proper entry is an issue for a shard and index.
+pub fn is_issue_for(entry: u64, shard: u64, index: u64) -> bool {
+    entry >> 20 == (1 << 12) + (index << 4) + shard
+}

@@ -1,0 +1,139 @@
+//! The checker of the claims is itself checked: it has to see what wrong machines do.
+
+use penkwadar_tests::claims::{Claims, Violation};
+use penkwadar_tests::plain;
+use penkwadar_tests::rejection::number_of;
+use penkwadar_tests::step::Step;
+use penkwadar_tests::testing::plans::plan;
+use penkwadar_tests::testing::random::Random;
+use penkwadar_tests::testing::steps::any_step;
+use penkwadar_tests::testing::temper::Temper;
+use penkwadar_tests::testing::wrong::Wrong;
+use penkwadar_tests::view::{SHARD_WORDS, View, issue};
+
+/// Shard 0 has hosts 0 and 1, shard 1 has hosts 2 and 3.
+const PLAN: [u64; 6] = [1, 0b0011, 0, 0, 0b1100, 2];
+
+/// The runs of wrong machines are always the same.
+const SEED: u64 = 1;
+
+fn begin() -> (Vec<u64>, Claims) {
+    let mut words = vec![0; 2 * SHARD_WORDS];
+    plain::setup(&mut words, &PLAN).expect("a good plan");
+    let claims = Claims::after_setup(&words).expect("the claims after setup");
+    (words, claims)
+}
+
+/// Shard 0 has 7 and 8 in both histories, 7 stable in both; the claims have followed.
+fn two_takes() -> (Vec<u64>, Claims) {
+    let (mut words, mut claims) = begin();
+    let steps = [
+        Step::add(0, 1, 7),
+        Step::add(0, 1, 8),
+        Step::adopt(0, 1, 1),
+        Step::learn(0, 1, 0, 1),
+        Step::learn(0, 1, 1, 1),
+    ];
+    for step in steps {
+        assert_eq!(plain::step(&mut words, step), Ok(()));
+        assert_eq!(claims.after_step(step, 0, &words), Ok(()));
+    }
+    assert_eq!(claims.reference(0), [7]);
+    (words, claims)
+}
+
+/// What the claims say to words that somebody changed.
+fn verdict(change: impl Fn(&mut [u64])) -> Result<(), Violation> {
+    let (mut words, mut claims) = two_takes();
+    change(&mut words);
+    claims.after_step(Step::wedge(0, 1, 0), 0, &words)
+}
+
+/// The first replica of shard 0 is at 64, the second at 128; words 1, 2 and 8 of each: length, stable length, entries.
+#[test]
+fn changed_words() {
+    assert_eq!(verdict(|_| ()), Ok(()));
+    assert_eq!(verdict(|words| words[66] = 2), Ok(()), "learned a second time");
+    assert_eq!(verdict(|words| words[66] = 0), Err(Violation::Shrinks));
+    assert_eq!(verdict(|words| words[72] = 8), Err(Violation::Shrinks), "another stable entry");
+    assert_eq!(verdict(|words| (words[66], words[73]) = (2, 9)), Err(Violation::NotOffered));
+    assert_eq!(verdict(|words| (words[66], words[73]) = (2, 7)), Err(Violation::Twice));
+    let unlike = |words: &mut [u64]| {
+        (words[66], words[130]) = (2, 2);
+        (words[73], words[137]) = (8, 9);
+    };
+    assert_eq!(verdict(unlike), Err(Violation::Disagrees), "in another replica");
+    assert_eq!(verdict(|words| words[2] = 0b0101), Err(Violation::Vanished));
+    let installed = |words: &mut [u64]| (words[1], words[3], words[11]) = (2, 1, 0);
+    assert_eq!(verdict(installed), Err(Violation::NotFirstIssue), "nobody issued it");
+}
+
+#[test]
+fn changed_by_a_rejection() {
+    let (mut words, mut claims) = two_takes();
+    words[66] = 2;
+    let verdict = claims.after_step(Step::learn(0, 1, 0, 2), 18, &words);
+    assert_eq!(verdict, Err(Violation::ChangedByRejection));
+}
+
+#[test]
+fn not_empty_after_setup() {
+    let (words, _) = two_takes();
+    assert_eq!(Claims::after_setup(&words).err(), Some(Violation::SetupNotEmpty));
+}
+
+/// An entry may become stable again elsewhere, but not another one in its place.
+#[test]
+fn other_entry_at_a_later_moment() {
+    let (mut words, mut claims) = begin();
+    let mut play = |step| {
+        let answer = number_of(&plain::step(&mut words, step));
+        assert_eq!(claims.after_step(step, answer, &words), Ok(()));
+        assert_eq!(answer, 0, "{step:?}");
+    };
+    play(Step::add(1, 1, issue(2, 0, 4, 1 << 4)));
+    play(Step::adopt(1, 1, 3));
+    play(Step::learn(1, 1, 3, 1));
+    play(Step::install(0, 1, 3, 0));
+    play(Step::wedge(0, 1, 0));
+    play(Step::inherit(0, 2, 4, 0));
+    play(Step::add(0, 2, 7));
+    play(Step::learn(0, 2, 4, 1));
+    play(Step::add(0, 2, 8));
+    // The replica of index 1 that was not wedged holds another stable entry, which was offered.
+    (words[128 + 1], words[128 + 2], words[128 + 8]) = (1, 1, 8);
+    let verdict = claims.after_step(Step::wedge(0, 1, 0), 0, &words);
+    assert_eq!(verdict, Err(Violation::Disagrees));
+}
+
+/// Random runs of machines with one error each: some run has to break a claim, and never in an unfit way.
+#[test]
+fn wrong_machines() {
+    for wrong in Wrong::ALL {
+        let mut seen = Vec::new();
+        let first = (0..10_000).find(|&run| {
+            let violation = run_wrong(wrong, run);
+            seen.extend(violation);
+            violation.is_some()
+        });
+        println!("{wrong:?}: {seen:?} in run {first:?}");
+        let fit = seen.iter().all(|violation| wrong.violations().contains(violation));
+        assert!(first.is_some() && fit, "{wrong:?}: {seen:?}");
+    }
+}
+
+/// The first claim that one run breaks.
+fn run_wrong(wrong: Wrong, run: u64) -> Option<Violation> {
+    let mut random = Random::of_run(SEED, run);
+    let shards = random.within(2..=3);
+    let plan = plan(&mut random, shards);
+    let mut words = vec![0; shards as usize * SHARD_WORDS];
+    plain::setup(&mut words, &plan).expect("a good plan");
+    let mut claims = Claims::after_setup(&words).expect("the claims after setup");
+    let temper = Temper::any(&mut random);
+    (0..800).find_map(|_| {
+        let step = any_step(&mut random, View::new(&words), &temper);
+        let answer = wrong.step(&mut words, step);
+        claims.after_step(step, answer, &words).err()
+    })
+}

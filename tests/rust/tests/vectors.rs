@@ -1,0 +1,47 @@
+//! The vectors of both kinds, on both implementations.
+
+use penkwadar_tests::interface::{Interface, Plain, Proved};
+use penkwadar_tests::testing::vectors::{fnv, program_vectors, step_vectors};
+
+#[test]
+fn plain_steps() {
+    steps::<Plain>();
+}
+
+#[test]
+fn proved_steps() {
+    steps::<Proved>();
+}
+
+#[test]
+fn plain_programs() {
+    programs::<Plain>();
+}
+
+#[test]
+fn proved_programs() {
+    programs::<Proved>();
+}
+
+fn steps<I: Interface>() {
+    let vectors = step_vectors();
+    assert!(vectors.len() >= 1_500, "only {} vectors", vectors.len());
+    for (number, mut vector) in (1..).zip(vectors) {
+        let answer = I::step(&mut vector.words, vector.step);
+        assert_eq!(answer, vector.answer, "answer of vector {number}");
+        assert_eq!(fnv(&vector.words), vector.check, "state of vector {number}");
+    }
+}
+
+fn programs<I: Interface>() {
+    let vectors = program_vectors();
+    assert!(vectors.len() >= 143, "only {} vectors", vectors.len());
+    for vector in vectors {
+        let (mut out, mut count) = (vec![0xee; 50_000], [7]);
+        let answer = I::transcript(&vector.input, &mut out, &mut count);
+        assert_eq!(answer, 0, "answer of {}", vector.name);
+        let (text, rest) = out.split_at(count[0] as usize);
+        assert_eq!(text, vector.output, "text of {}", vector.name);
+        assert!(rest.iter().all(|&byte| byte == 0xee), "written past the text of {}", vector.name);
+    }
+}
