@@ -17,9 +17,13 @@ pub extern "C" fn penkwadar_read_step(log: &[u8], at: usize, step: &mut [u64]) -
     if step.len() < 6 {
         return 8;
     }
-    match log::reader::read_step(log, at) {
+    if log.len() <= at {
+        put_step(step, 0, 0, 0, 0, 0, 0);
+        return 0;
+    }
+    match log::reader::first_step(&log[at..]) {
         Reading::Step { step: s, next } => {
-            put_step(step, s.kind, s.a, s.b, s.c, s.d, next as u64);
+            put_step(step, s.kind, s.a, s.b, s.c, s.d, (at + next) as u64);
             0
         }
         Reading::End => {

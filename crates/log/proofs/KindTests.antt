@@ -5,12 +5,7 @@ use mathlib.Core.Path.{_≡_, refl}
 use mathlib.Core.Bool.{Bool, true, false, cond}
 use Rattle.model.specs.declared.kind.Kind.{Kind}
 use Rattle.model.specs.Kinds.{isKept, isUnknown}
-use Rattle.log.specs.Kinds.{kindRejection}
-
--- a kind that is neither kept nor unknown
-pub record Known (k : Kind) : Type 0 where
-  pub notKept : isKept k ≡ false
-  pub known : isUnknown k ≡ false
+use Rattle.log.specs.Kinds.{kindRejection, Known}
 
 neither : (t u : Bool) → _≡_ {A = ℕ} (cond t 3 (cond u 4 0)) 0 → (t ≡ false) × (u ≡ false)
 neither true u e = absurd (omega arith)

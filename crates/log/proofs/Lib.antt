@@ -7,6 +7,7 @@ pub mod Writes
 -- Steps
 pub mod KindTests
 pub mod StepParts
+pub mod ShortSteps
 pub mod StepBytes
 pub mod Progress
 pub mod Rejections

@@ -1,10 +1,11 @@
 -- The bytes of a step, and how many there are. Assumes nothing.
-use Prim.Native.Nat.{ℕ, _+_, _≤_, _<_}
+use Prim.Native.Nat.{ℕ, _+_, _-_, _≤_, _<_}
+use native.Mathlib.Decide.{decLe}
 use native.Mathlib.Omega.{arith}
 use mathlib.Core.Logic.{_⊎_, inl, inr}
-use mathlib.Core.Path.{_≡_, refl}
-use mathlib.Core.Bool.{cond}
-use mathlib.Core.List.{[], append-nil}
+use mathlib.Core.Path.{_≡_, refl, sym, _∙_}
+use mathlib.Core.Bool.{Bool, true, false, cond}
+use mathlib.Core.List.{List, [], append-nil}
 use lib.Dec.{leb}
 use lib.ListN.{length, length-append}
 use borrow.Author.Tests.{le-leb, lt-leb}
@@ -14,8 +15,8 @@ use Rattle.model.specs.Numbers.{numberBytes, numbersBytes}
 use Rattle.model.specs.Writer.{stepBytes}
 use Rattle.model.proofs.RoundTrip.{used-cases}
 use Rattle.log.specs.Writer.{bytesOf}
-use Rattle.log.proofs.KindTests.{Known}
-use Rattle.log.proofs.Lengths.{length-one}
+use Rattle.log.specs.Kinds.{Known}
+use Rattle.log.proofs.Lengths.{length-one, length-most}
 
 either-bytes : (s : Step) (u : ℕ) → (u ≡ 3) ⊎ (u ≡ 4) → usedNumbers (kindOf (s .kind)) ≡ u → bytesOf s u ≡ stepBytes s
 unfolding bytesOf stepBytes numbersBytes
@@ -46,3 +47,31 @@ pub length-no-d :
     (s : Step) (used : ℕ) → s .kind < 128 → used < 4
     → length (bytesOf s used) ≡ 1 + length (numberBytes (s .a)) + length (numberBytes (s .b)) + length (numberBytes (s .c))
 length-no-d s used h l = omega (arith, rw (lt-leb 4 used l) at (bytes-length s used h))
+
+-- ---- room
+
+short-end : (t : Bool) (bs : List ℕ) → length bs ≤ 5 → length (cond t bs []) ≤ 5
+short-end true bs h = h
+short-end false bs h = omega arith
+
+-- a step takes at most 25 bytes
+pub bytes-most : (s : Step) (used : ℕ) → length (bytesOf s used) ≤ 25
+unfolding bytesOf
+bytes-most s used =
+    simp length-append
+    (omega (
+      arith,
+      length-most (s .kind),
+      length-most (s .a),
+      length-most (s .b),
+      length-most (s .c),
+      short-end (leb 4 used) (numberBytes (s .d)) (length-most (s .d)),
+    ))
+
+-- whether n bytes fit, from what they leave
+pub room-left : (at n len : ℕ) {total : ℕ} → total ≡ n → total ≤ len → leb at (len - total) ≡ leb (at + n) len
+room-left at n len {total} e h =
+    elim (decLe (at + n) len) [
+      | yes l ↦ le-leb at (len - total) (omega (arith, e)) ∙ sym (le-leb (at + n) len l)
+      | no l ↦ lt-leb at (len - total) (omega (arith, e)) ∙ sym (lt-leb (at + n) len (omega arith))
+    ]

@@ -4,21 +4,23 @@ use native.Mathlib.Omega.{arith}
 use mathlib.Core.Path.{_≡_, refl, sym, _∙_}
 use mathlib.Core.Bool.{Bool, true, false, cond, true≢false}
 use mathlib.Core.List.{List, [], _∷_, _++_, append-assoc, append-nil}
+use lib.Dec.{leb}
 use lib.ListN.{length, drop, length-drop, drop-of-length-le}
-use lib.Seq.{drop-drop, drop-cons}
+use lib.Seq.{drop-drop}
 use Rattle.model.specs.declared.Number.{Number}
 use Rattle.model.specs.declared.Number.the-variants.{Value, Rejected as NotNumber}
 use Rattle.model.specs.declared.Reading.{Reading}
 use Rattle.model.specs.declared.Reading.the-variants.{Step as Read, End, Rejected}
 use Rattle.model.specs.declared.kind.Kind.{Kind}
 use Rattle.model.specs.declared.kind.Kind.the-variants.{Add, Adopt, Learn, Wedge, Install, Inherit, Kept, Unknown}
+use Rattle.model.specs.declared.step.Step.{Step}
 use Rattle.model.specs.Kinds.{kindOf, isKept, isUnknown, usedNumbers}
 use Rattle.model.specs.Log.{stepOf, afterNumbers, afterKind, readStep, readAt, from}
 use Rattle.model.specs.Numbers.{Numbers, values, rejected, readNumber, readNumbers, afterFirst, withFirst}
 use Rattle.model.proofs.Numbers.{number-bytes-least, number-within}
-use Rattle.log.specs.Kinds.{kindRejection}
+use Rattle.model.proofs.RoundTrip.{step-least, step-within}
+use Rattle.log.specs.Kinds.{kindRejection, Known}
 use Rattle.log.specs.Reader.{stepAfter, fourth, kindAt}
-use Rattle.log.proofs.KindTests.{Known}
 
 -- ---- one number
 
@@ -58,32 +60,29 @@ number-inside log at p q =
 
 -- ---- the kind
 
-used-fourth : (k : Kind) → Known k → usedNumbers k ≡ suc (suc (suc (fourth (usedNumbers k))))
-unfolding isKept isUnknown usedNumbers fourth
-used-fourth Add h = refl
-used-fourth Adopt h = refl
-used-fourth Learn h = refl
-used-fourth Wedge h = refl
-used-fourth Install h = refl
-used-fourth Inherit h = refl
-used-fourth Kept h = absurd (true≢false (h .notKept))
-used-fourth Unknown h = absurd (true≢false (h .known))
+used-cases : (k : Kind) → Known k → usedNumbers k ≡ suc (suc (suc (cond (leb 4 (usedNumbers k)) 1 0)))
+unfolding isKept isUnknown usedNumbers
+used-cases Add h = refl
+used-cases Adopt h = refl
+used-cases Learn h = refl
+used-cases Wedge h = refl
+used-cases Install h = refl
+used-cases Inherit h = refl
+used-cases Kept h = absurd (true≢false (h .notKept))
+used-cases Unknown h = absurd (true≢false (h .known))
 
-numbers-from : (k at n : ℕ) (r : Numbers) → from at (afterNumbers k n r) ≡ stepAfter k [] (at + n) r
-unfolding from afterNumbers stepAfter
-numbers-from k at n (values vs m) = let next : at + (n + m) ≡ at + n + m = omega arith in rw next
-numbers-from k at n (rejected r) = refl
+used-fourth : (k : ℕ) → Known (kindOf k) → usedNumbers (kindOf k) ≡ suc (suc (suc (fourth k)))
+unfolding fourth
+used-fourth k h = used-cases (kindOf k) h
 
--- a rejection has no position
-cond-from : (t : Bool) (at r : ℕ) (x : Reading) → from at (cond t (Rejected r) x) ≡ cond t (Rejected r) (from at x)
-unfolding from
-cond-from true at r x = refl
-cond-from false at r x = refl
+numbers-first : (k n : ℕ) (r : Numbers) → afterNumbers k n r ≡ stepAfter k [] n r
+unfolding afterNumbers stepAfter
+numbers-first k n (values vs m) = refl
+numbers-first k n (rejected r) = refl
 
-kind-from : (log : List ℕ) (at k n : ℕ) → from at (afterKind (drop at log) (Value k n)) ≡ kindAt log (at + n) k
+kind-first : (log : List ℕ) (k n : ℕ) → afterKind log (Value k n) ≡ kindAt log n k
 unfolding afterKind kindAt
-kind-from log at k n =
-    rw (cond-from (isKept (kindOf k)) at 3, cond-from (isUnknown (kindOf k)) at 4, drop-drop n at log, numbers-from k at n)
+kind-first log k n = rw (numbers-first k n)
 
 rejected-first : (t u : Bool) (r : ℕ) (x : Reading) → r ≡ cond t 3 (cond u 4 0) → (r ≡ 0 → ⊥)
     → Rejected r ≡ cond t (Rejected 3) (cond u (Rejected 4) x)
@@ -98,26 +97,46 @@ module _ (log : List ℕ) (at k : ℕ) where
 
   pub kind-taken :
       Known (kindOf k) → {r : Reading}
-      → r ≡ stepAfter k [] at (readNumbers (suc (suc (suc (fourth (usedNumbers (kindOf k)))))) (drop at log))
+      → r ≡ stepAfter k [] at (readNumbers (suc (suc (suc (fourth k)))) (drop at log))
       → r ≡ kindAt log at k
   unfolding kindAt
-  kind-taken h e = rw (h .notKept, h .known, used-fourth (kindOf k) h) e
+  kind-taken h e = rw (h .notKept, h .known, used-fourth k h) e
 
--- ---- a step
+-- ---- the step at the start of a log
+
+first-number : (log : List ℕ) → 0 < length log → readStep log ≡ afterKind log (readNumber log)
+unfolding readStep
+first-number [] h = absurd (omega arith)
+first-number (b ∷ bs) h = refl
+
+pub first-none : (log : List ℕ) → length log ≡ 0 → End ≡ readStep log
+unfolding readStep
+first-none [] h = refl
+first-none (b ∷ bs) h = absurd (omega arith)
+
+module _ (log : List ℕ) (h : 0 < length log) {x : Number} (p : x ≡ readNumber (drop 0 log)) where
+  pub first-kind : {k n : ℕ} → x ≡ Value k n → {r : Reading} → r ≡ kindAt log n k → r ≡ readStep log
+  first-kind {k} {n} q e = rw (first-number log h, ← p, q, kind-first log k n) e
+
+  pub first-no-kind : {r : ℕ} → x ≡ NotNumber r → Rejected r ≡ readStep log
+  unfolding afterKind
+  first-no-kind q = rw (first-number log h, ← p, q)
+
+-- ---- the step at a position
 
 module _ (log : List ℕ) (at : ℕ) where
   pub step-none : length log ≤ at → End ≡ readAt log at
   unfolding readAt readStep from
   step-none h = rw (drop-of-length-le log h)
 
-  module _ (h : at < length log) {x : Number} (p : x ≡ readNumber (drop at log)) where
-    step-first : readAt log at ≡ from at (afterKind (drop at log) x)
-    unfolding readAt readStep
-    step-first = rw (p, drop-cons log at 0 h)
+  -- x is the first step of the bytes from the position on
+  module _ {x : Reading} (p : x ≡ readStep (drop at log)) where
+    -- it lies within the log, so the position after it fits
+    pub step-inside : {s : Step} {n : ℕ} → x ≡ Read s n → at + n ≤ length log
+    step-inside q =
+        let e = sym p ∙ q in
+        omega (arith, step-least (drop at log) e, rw (length-drop at log) at (step-within (drop at log) e))
 
-    pub step-kind : {k n : ℕ} → x ≡ Value k n → {r : Reading} → r ≡ kindAt log (at + n) k → r ≡ readAt log at
-    step-kind {k} {n} q e = rw (step-first, q, kind-from log at k n) e
-
-    pub step-no-kind : {r : ℕ} → x ≡ NotNumber r → Rejected r ≡ readAt log at
-    unfolding afterKind from
-    step-no-kind q = rw (step-first, q)
+    pub step-from : {y : Reading} → x ≡ y → from at y ≡ readAt log at
+    unfolding readAt
+    step-from q = rw (← p, q)

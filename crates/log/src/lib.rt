@@ -4,4 +4,5 @@ mod kinds;
 pub mod number;
 mod number_bytes;
 pub mod reader;
+mod short;
 pub mod writer;

@@ -1,6 +1,8 @@
 // Steps from bytes: a kind, then the numbers that it uses, each read at its position.
 use crate::kinds::rejection;
 use crate::number::read_number;
+use crate::short::is_short;
+use crate::short::short_step;
 use model::Number;
 use model::Reading;
 use model::kind::Kind;
@@ -10,7 +12,7 @@ ghost use mathlib.Core.List.{[], _∷_};
 ghost use Prim.Native.Nat.{suc};
 ghost use lib.ListN.{drop};
 ghost use Rattle.model.specs.Numbers.{readNumbers};
-ghost use Rattle.model.specs.Log.{readAt};
+ghost use Rattle.model.specs.Log.{readAt, readStep};
 ghost use Rattle.log.specs.Reader.{stepAfter, fourth, kindAt};
 
 // The step at a position of a log.
@@ -20,8 +22,38 @@ pub fn read_step(log: &[u8], at: usize) -> Reading
     if log.len() <= at {
         return Reading::End;
     }
-    match read_number(log, at) {
-        Number::Value { value, bytes } => after_kind(log, at + bytes, value),
+    match first_step(&log[at..]) {
+        Reading::Step { step, next } => Reading::Step {
+            step,
+            next: at + next,
+        },
+        Reading::End => Reading::End,
+        Reading::Rejected(r) => Reading::Rejected(r),
+    }
+}
+
+// The step at the start of a log, with the count of its bytes. A caller that adds the count to a position itself need not wait for the
+// position inside the reader.
+pub fn first_step(log: &[u8]) -> Reading
+    ensures { λ r. ⌜ r ≡ readStep (now (log .entry)) ⌝ }
+{
+    if 5 <= log.len() {
+        if is_short(log) {
+            return short_step(log);
+        }
+    }
+    any_step(log)
+}
+
+// The same, of numbers of any length.
+fn any_step(log: &[u8]) -> Reading
+    ensures { λ r. ⌜ r ≡ readStep (now (log .entry)) ⌝ }
+{
+    if log.len() == 0 {
+        return Reading::End;
+    }
+    match read_number(log, 0) {
+        Number::Value { value, bytes } => after_kind(log, bytes, value),
         Number::Rejected(r) => Reading::Rejected(r),
     }
 }
@@ -30,39 +62,38 @@ pub fn read_step(log: &[u8], at: usize) -> Reading
 fn after_kind(log: &[u8], at: usize, kind: u64) -> Reading
     ensures { λ r. ⌜ r ≡ kindAt (now (log .entry)) at kind ⌝ }
 {
-    let k = Kind::of(kind);
-    let bad = rejection(k);
+    let bad = rejection(Kind::of(kind));
     if bad != 0 {
         return Reading::Rejected(bad);
     }
-    read_a(log, at, kind, k.used())
+    read_a(log, at, kind)
 }
 
-fn read_a(log: &[u8], at: usize, kind: u64, used: usize) -> Reading
-    ensures { λ r. ⌜ r ≡ stepAfter kind [] at (readNumbers (suc (suc (suc (fourth used)))) (drop at (now (log .entry)))) ⌝ }
+fn read_a(log: &[u8], at: usize, kind: u64) -> Reading
+    ensures { λ r. ⌜ r ≡ stepAfter kind [] at (readNumbers (suc (suc (suc (fourth kind)))) (drop at (now (log .entry)))) ⌝ }
 {
     match read_number(log, at) {
-        Number::Value { value, bytes } => read_b(log, at + bytes, kind, used, value),
+        Number::Value { value, bytes } => read_b(log, at + bytes, kind, value),
         Number::Rejected(r) => Reading::Rejected(r),
     }
 }
 
-fn read_b(log: &[u8], at: usize, kind: u64, used: usize, a: u64) -> Reading
-    ensures { λ r. ⌜ r ≡ stepAfter kind (a ∷ []) at (readNumbers (suc (suc (fourth used))) (drop at (now (log .entry)))) ⌝ }
+fn read_b(log: &[u8], at: usize, kind: u64, a: u64) -> Reading
+    ensures { λ r. ⌜ r ≡ stepAfter kind (a ∷ []) at (readNumbers (suc (suc (fourth kind))) (drop at (now (log .entry)))) ⌝ }
 {
     match read_number(log, at) {
-        Number::Value { value, bytes } => read_c(log, at + bytes, kind, used, a, value),
+        Number::Value { value, bytes } => read_c(log, at + bytes, kind, a, value),
         Number::Rejected(r) => Reading::Rejected(r),
     }
 }
 
-fn read_c(log: &[u8], at: usize, kind: u64, used: usize, a: u64, b: u64) -> Reading
-    ensures { λ r. ⌜ r ≡ stepAfter kind (a ∷ b ∷ []) at (readNumbers (suc (fourth used)) (drop at (now (log .entry)))) ⌝ }
+fn read_c(log: &[u8], at: usize, kind: u64, a: u64, b: u64) -> Reading
+    ensures { λ r. ⌜ r ≡ stepAfter kind (a ∷ b ∷ []) at (readNumbers (suc (fourth kind)) (drop at (now (log .entry)))) ⌝ }
 {
     match read_number(log, at) {
         Number::Value { value, bytes } => {
             let next = at + bytes;
-            if 4 <= used {
+            if 4 <= Kind::of(kind).used() {
                 return read_d(log, next, kind, a, b, value);
             }
             Reading::Step {

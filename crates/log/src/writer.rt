@@ -6,7 +6,8 @@ use model::Writing;
 use model::kind::Kind;
 use model::step::Step;
 ghost use mathlib.Core.Path.{_≡_};
-ghost use Prim.Native.Nat.{_<_};
+ghost use Prim.Native.Nat.{_+_, _<_};
+ghost use lib.Dec.{leb};
 ghost use lib.ListN.{length};
 ghost use lib.Seq.{sets};
 ghost use Rattle.model.specs.Writer.{writing, afterWriting};
@@ -26,15 +27,11 @@ pub fn write_step(out: &mut [u8], at: usize, s: Step) -> Writing
     if !are_writable(s, used) {
         return Writing::Rejected(7);
     }
-    let total = step_length(s, used);
-    if out.len() < total {
+    if !has_room(out.len(), at, s, used) {
         return Writing::Rejected(8);
     }
-    if out.len() - total < at {
-        return Writing::Rejected(8);
-    }
-    write_bytes(out, at, s, used);
-    Writing::Bytes(total)
+    let end = write_bytes(out, at, s, used);
+    Writing::Bytes(end - at)
 }
 
 // 2^35: what five bytes hold is below it.
@@ -62,6 +59,23 @@ fn are_writable(s: Step, used: usize) -> bool
     s.d == 0
 }
 
+// Whether an output of a length has room for a step at a position. Each of its five numbers takes at most five bytes.
+fn has_room(len: usize, at: usize, s: Step, used: usize) -> bool
+    requires { ⌜ s .kind < 128 ⌝ }
+    ensures { λ r. ⌜ r ≡ leb (at + length (bytesOf s used)) len ⌝ }
+{
+    if 25 <= len {
+        if at <= len - 25 {
+            return true;
+        }
+    }
+    let total = step_length(s, used);
+    if len < total {
+        return false;
+    }
+    at <= len - total
+}
+
 // How many bytes a step takes. Its kind takes one.
 fn step_length(s: Step, used: usize) -> usize
     requires { ⌜ s .kind < 128 ⌝ }
@@ -74,16 +88,17 @@ fn step_length(s: Step, used: usize) -> usize
     three
 }
 
-// Writes the bytes of a step where the output has room for them.
-fn write_bytes(out: &mut [u8], at: usize, s: Step, used: usize)
+// Writes the bytes of a step where the output has room for them, and returns the position after them.
+fn write_bytes(out: &mut [u8], at: usize, s: Step, used: usize) -> usize
     requires { ⌜ Room (now out) at s used ⌝ }
-    ensures { λ r. ⌜ now (out .exit) ≡ sets (now (out .entry)) at (bytesOf s used) ⌝ }
+    ensures { λ r. ⌜ (r ≡ at + length (bytesOf s used)) × (now (out .exit) ≡ sets (now (out .entry)) at (bytesOf s used)) ⌝ }
 {
     let at_a = write_number(out, at, s.kind);
     let at_b = write_number(out, at_a, s.a);
     let at_c = write_number(out, at_b, s.b);
     let at_d = write_number(out, at_c, s.c);
     if 4 <= used {
-        write_number(out, at_d, s.d);
+        return write_number(out, at_d, s.d);
     }
+    at_d
 }

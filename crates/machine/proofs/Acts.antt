@@ -1,27 +1,50 @@
--- A step whose numbers are in range, by its kind: what the kind's functions require, and that their answer and effect are the step's.
+-- A step of a kind whose numbers are in range: what the kind's functions require.
 -- Assumes nothing.
-use Prim.Native.Nat.{ℕ, _-_, _≤_}
+use Prim.Native.Nat.{ℕ, _-_, _≤_, _<_}
 use native.Mathlib.Omega.{arith}
-use mathlib.Core.Path.{_≡_}
+use mathlib.Core.Path.{_≡_, sym, ap, _∙_}
 use mathlib.Core.Bool.{Bool, true, _&&_}
-use mathlib.Core.List.{List}
+use mathlib.Core.List.{List, [], _∷_}
 use lib.Dec.{leb, ltb, eqb}
-use borrow.Author.Tests.{leb-true, ltb-true, eq-eqb, ne-eqb}
+use borrow.Author.Tests.{leb-true, ltb-true}
 use lib.ListN.{length}
 use Rattle.model.specs.declared.kind.Kind.{Kind}
 use Rattle.model.specs.declared.kind.Kind.the-variants.{Add, Adopt, Learn, Wedge, Install, Inherit}
 use Rattle.model.specs.declared.step.Step.{Step}
-use Rattle.model.specs.Checks.{firstOf}
 use Rattle.model.specs.Kinds.{kindOf}
 use Rattle.model.specs.Members.{isHost}
 use Rattle.model.specs.Entries.{isEntry}
 use Rattle.model.specs.Layout.{shardsOf}
-use Rattle.model.specs.Steps.{shardOf, configurationOf, areNumbers, kindChecks, kindEffect}
-use Rattle.model.proofs.Tests.{both}
-use Rattle.machine.specs.Inside.{Ready, ReadyHost, ReadyStep, answer, left}
+use Rattle.model.specs.Steps.{shardOf, configurationOf, areNumbers, inRange}
+use Rattle.model.proofs.Tests.{both, all-pass}
+use Rattle.machine.specs.Inside.{Formed, Ready, ReadyHost, ReadyKind}
 use Rattle.machine.specs.InsideInherit.{ReadySource}
 use Rattle.machine.specs.Installs.{ReadyPlace}
 use Rattle.machine.specs.Orderers.{ReadyEntry}
+
+-- a well-formed state, and a step whose numbers are in range
+pub record ReadyStep (w : List ℕ) (s : Step) : Type 0 where
+  pub state : Formed w
+  pub shard : shardOf s < shardsOf (length w)
+  pub least : 1 ≤ s .b
+  pub most : s .b ≤ 8
+  pub numbers : areNumbers (kindOf (s .kind)) (shardsOf (length w)) (s .c) (s .d) ≡ true
+
+-- the range test of a step
+pub range-told : {k : Kind} {w : List ℕ} {n : ℕ} {s : Step} → ReadyKind k w n s → {r b : Bool} → r ≡ inRange n s → r ≡ b → inRange (shardsOf (length w)) s ≡ b
+range-told {s = s} p a e = ap (λ (z : ℕ). inRange z s) (sym (p .count)) ∙ sym a ∙ e
+
+pub ready-step : {k : Kind} {w : List ℕ} {n : ℕ} {s : Step} → ReadyKind k w n s → inRange (shardsOf (length w)) s ≡ true → ReadyStep w s
+unfolding inRange shardOf
+ready-step {w = w} {s = s} r e =
+    let p = all-pass (ltb (s .a) (shardsOf (length w))) (leb 1 (s .b) ∷ leb (s .b) 8 ∷ areNumbers (kindOf (s .kind)) (shardsOf (length w)) (s .c) (s .d) ∷ []) e in
+    record {
+      state = r .state;
+      shard = ltb-true (s .a) (shardsOf (length w)) (p .0);
+      least = leb-true 1 (s .b) (p .1 .0);
+      most = leb-true (s .b) 8 (p .1 .1 .0);
+      numbers = p .1 .1 .1 .0;
+    }
 
 module _ {w : List ℕ} {s : Step} (r : ReadyStep w s) where
   ready : Ready w (shardOf s) (configurationOf s)
@@ -69,19 +92,3 @@ module _ {w : List ℕ} {s : Step} (r : ReadyStep w s) where
         named = host (ltb (s .d) 16) (numbers e);
         source = ltb-true (s .d) 16 (both (ltb (s .c) 16) (ltb (s .d) 16) .0 (numbers e) .1);
       }
-
--- answer and effect at a known kind
-pub answer-is : (w : List ℕ) (s : Step) {k : Kind} → kindOf (s .kind) ≡ k
-    → firstOf (kindChecks k w (shardOf s) (configurationOf s) (s .c) (s .d)) ≡ answer w s
-unfolding answer
-answer-is w s e = rw e
-
-pub left-is : (w : List ℕ) (s : Step) {k : Kind} → kindOf (s .kind) ≡ k → answer w s ≡ 0
-    → kindEffect k w (shardOf s) (configurationOf s) (s .c) (s .d) ≡ left w s
-unfolding left
-left-is w s e q = rw (eq-eqb (answer w s) 0 q, e)
-
--- a rejected step leaves the state
-pub left-rejected : (w : List ℕ) (s : Step) → (answer w s ≡ 0 → ⊥) → w ≡ left w s
-unfolding left
-left-rejected w s n = rw (ne-eqb (answer w s) 0 n)

@@ -5,20 +5,20 @@ use native.Mathlib.Omega.{arith}
 use mathlib.Core.Path.{_≡_, refl, sym, ap, _∙_}
 use mathlib.Core.Bool.{Bool, true, false, cond, not, _&&_}
 use mathlib.Core.List.{List, [], _∷_}
-use lib.Dec.{leb, ltb, eqb}
+use lib.Dec.{leb, eqb}
 use lib.ListN.{length}
-use borrow.Author.Tests.{leb-true, ltb-true, le-leb, lt-leb, eq-eqb, ne-eqb}
+use borrow.Author.Tests.{leb-true, le-leb, lt-leb, eq-eqb, ne-eqb}
 use Rattle.model.specs.declared.step.Step.{Step}
 use Rattle.model.specs.Checks.{firstOf}
 use Rattle.model.specs.Kinds.{kindOf, isKept, isUnknown}
 use Rattle.model.specs.Layout.{shardsOf, isStateLength}
 use Rattle.model.specs.WellFormed.{wellFormed}
 use Rattle.model.specs.Setup.{isPlan, setupRejection, afterSetup, initialState}
-use Rattle.model.specs.Steps.{shardOf, areNumbers, inRange, stepChecks, rejection, effect, after}
+use Rattle.model.specs.Steps.{shardOf, configurationOf, inRange, kindChecks, stepChecks, rejection, effect, after}
 use Rattle.model.proofs.Tests.{all-pass}
 use Rattle.model.proofs.Places.{length-of-shards}
-use Rattle.model.proofs.WellFormedSteps.{after-rejected}
-use Rattle.machine.specs.Inside.{Formed, ReadyStep, argumentRejection, answer, left}
+use Rattle.model.proofs.WellFormedSteps.{after-accepted, after-rejected}
+use Rattle.machine.specs.Inside.{Formed, argumentRejection}
 
 -- a length has no shards, or is that of a state
 pub several : (n : ℕ) → (shardsOf n ≡ 0 → ⊥) → 2 ≤ shardsOf n
@@ -57,6 +57,10 @@ ladder true true false k = refl
 ladder true false r k = refl
 ladder false b r k = refl
 
+-- what the checks of the step's kind answer
+unfoldable pub answer : List ℕ → Step → ℕ
+answer w s = firstOf (kindChecks (kindOf (s .kind)) w (shardOf s) (configurationOf s) (s .c) (s .d))
+
 module _ (w : List ℕ) (s : Step) where
   rejection-is : rejection w s
       ≡ cond (isStateLength (length w))
@@ -68,7 +72,7 @@ module _ (w : List ℕ) (s : Step) where
       (ladder (not (isKept (kindOf (s .kind)))) (not (isUnknown (kindOf (s .kind)))) (inRange (shardsOf (length w)) s) (cond (wellFormed w) (answer w s) 9))
 
   -- a step that is rejected leaves the state
-  rejected : (r : ℕ) → r ≡ rejection w s → (r ≡ 0 → ⊥) → (r ≡ rejection w s) × (w ≡ after w s)
+  pub rejected : (r : ℕ) → r ≡ rejection w s → (r ≡ 0 → ⊥) → (r ≡ rejection w s) × (w ≡ after w s)
   rejected r e n = (e, sym (after-rejected w s (λ q. n (e ∙ q))))
 
   length-passes : (shardsOf (length w) ≡ 0 → ⊥) → isStateLength (length w) ≡ true
@@ -89,31 +93,13 @@ module _ (w : List ℕ) (s : Step) where
   rejects-form l e f =
       rejected 9 (sym (rejection-is ∙ rw (length-passes l, eq-eqb (argumentRejection (shardsOf (length w)) s) 0 e, f))) (λ q. omega arith)
 
-  -- a step that passes them is its kind's
-  pub acts : (shardsOf (length w) ≡ 0 → ⊥) → argumentRejection (shardsOf (length w)) s ≡ 0 → wellFormed w ≡ true
-      → (answer w s ≡ rejection w s) × (left w s ≡ after w s)
-  unfolding left after effect
-  acts l e f =
-      let a : answer w s ≡ rejection w s = sym (rejection-is ∙ rw (length-passes l, eq-eqb (argumentRejection (shardsOf (length w)) s) 0 e, f)) in
-      (a, rw a)
+  -- a step that passes them is answered by its kind
+  pub answered : (shardsOf (length w) ≡ 0 → ⊥) → argumentRejection (shardsOf (length w)) s ≡ 0 → wellFormed w ≡ true → answer w s ≡ rejection w s
+  answered l e f = sym (rejection-is ∙ rw (length-passes l, eq-eqb (argumentRejection (shardsOf (length w)) s) 0 e, f))
 
-  pub ready-step : (shardsOf (length w) ≡ 0 → ⊥) → argumentRejection (shardsOf (length w)) s ≡ 0 → wellFormed w ≡ true → ReadyStep w s
-  unfolding argumentRejection firstOf inRange shardOf
-  ready-step l e f =
-      let p = all-pass (ltb (s .a) (shardsOf (length w))) (leb 1 (s .b) ∷ leb (s .b) 8 ∷ areNumbers (kindOf (s .kind)) (shardsOf (length w)) (s .c) (s .d) ∷ []) (range (not (isKept (kindOf (s .kind)))) (not (isUnknown (kindOf (s .kind)))) _ e) in
-      record {
-        state = formed-of w l f;
-        shard = ltb-true (s .a) (shardsOf (length w)) (p .0);
-        least = leb-true 1 (s .b) (p .1 .0);
-        most = leb-true (s .b) 8 (p .1 .1 .0);
-        numbers = p .1 .1 .1 .0;
-      }
-    where
-      range : (a b r : Bool) → _≡_ {A = ℕ} (cond a (cond b (cond r 0 7) 4) 3) 0 → r ≡ true
-      range true true true q = refl
-      range true true false q = absurd (omega (arith, q))
-      range true false r q = absurd (omega (arith, q))
-      range false b r q = absurd (omega (arith, q))
+  -- an accepted step leaves its effect
+  pub accepted : {v : List ℕ} → 0 ≡ rejection w s → v ≡ effect w s → (0 ≡ rejection w s) × (v ≡ after w s)
+  accepted e q = (e, q ∙ sym (after-accepted w s (sym e)))
 
 -- a well-formed state has shards
 pub has-shards : {w : List ℕ} → Formed w → shardsOf (length w) ≡ 0 → ⊥

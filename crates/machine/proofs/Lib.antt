@@ -4,8 +4,9 @@ pub mod Stores
 pub mod Seats
 pub mod Contains
 pub mod Numbers
-pub mod Acts
 pub mod Entry
+pub mod Acts
+pub mod ActAnswers
 -- Adopt and inherit
 pub mod AdoptAccepted
 pub mod AdoptOrderer

@@ -1,16 +1,16 @@
 -- A step inside the machine: on a state that is known to be well-formed, with numbers in range.
 use Prim.Native.Nat.{ℕ, _+_, _*_, _≤_, _<_}
 use mathlib.Core.Path.{_≡_}
-use mathlib.Core.Bool.{true, cond, not}
+use mathlib.Core.Bool.{true, not}
 use mathlib.Core.List.{List, [], _∷_}
-use lib.Dec.{eqb}
 use lib.ListN.{length}
+use Rattle.model.specs.declared.kind.Kind.{Kind}
 use Rattle.model.specs.declared.step.Step.{Step}
 use Rattle.model.specs.Checks.{firstOf, _orElse_}
 use Rattle.model.specs.Kinds.{kindOf, isKept, isUnknown}
 use Rattle.model.specs.Layout.{shardsOf}
 use Rattle.model.specs.WellFormed.{wellFormed}
-use Rattle.model.specs.Steps.{shardOf, configurationOf, areNumbers, inRange, kindChecks, kindEffect}
+use Rattle.model.specs.Steps.{inRange}
 
 -- a well-formed state, with what that says of its length
 pub record Formed (w : List ℕ) : Type 0 where
@@ -30,13 +30,11 @@ pub record ReadyHost (w : List ℕ) (z j h : ℕ) : Type 0 where
   pub ready : Ready w z j
   pub host : h < 16
 
--- a well-formed state, and a step whose numbers are in range
-pub record ReadyStep (w : List ℕ) (s : Step) : Type 0 where
+-- a well-formed state with its number of shards, and a step of a kind
+pub record ReadyKind (k : Kind) (w : List ℕ) (shards : ℕ) (s : Step) : Type 0 where
   pub state : Formed w
-  pub shard : shardOf s < shardsOf (length w)
-  pub least : 1 ≤ s .b
-  pub most : s .b ≤ 8
-  pub numbers : areNumbers (kindOf (s .kind)) (shardsOf (length w)) (s .c) (s .d) ≡ true
+  pub count : shards ≡ shardsOf (length w)
+  pub kind : kindOf (s .kind) ≡ k
 
 -- the place of 64 words of the state
 pub record Placed (w : List ℕ) (at : ℕ) : Type 0 where
@@ -50,10 +48,3 @@ argumentRejection Z s =
     ∷ not (isUnknown (kindOf (s .kind))) orElse 4
     ∷ inRange Z s orElse 7
     ∷ [])
-
--- what a step answers and leaves once all that is tested
-unfoldable pub answer : List ℕ → Step → ℕ
-answer w s = firstOf (kindChecks (kindOf (s .kind)) w (shardOf s) (configurationOf s) (s .c) (s .d))
-
-unfoldable pub left : List ℕ → Step → List ℕ
-left w s = cond (eqb (answer w s) 0) (kindEffect (kindOf (s .kind)) w (shardOf s) (configurationOf s) (s .c) (s .d)) w

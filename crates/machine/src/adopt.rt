@@ -1,6 +1,9 @@
 // Kind 2, adopt: a replica takes over the orderer's history.
+use crate::arguments;
 use crate::look;
 use crate::words;
+use model::kind::Kind;
+use model::step::Step;
 ghost use mathlib.Core.Path.{_≡_};
 ghost use mathlib.Core.Bool.{true};
 ghost use Prim.Native.Nat.{min, max};
@@ -8,7 +11,8 @@ ghost use Rattle.model.specs.Checks.{firstOf};
 ghost use Rattle.model.specs.Layout.{isInstalled};
 ghost use Rattle.model.specs.Add.{ordererPlace};
 ghost use Rattle.model.specs.Adopt.{adoptChecks, adoptEffect};
-ghost use Rattle.machine.specs.Inside.{Ready, ReadyHost, Placed};
+ghost use Rattle.model.specs.Steps.{rejection, after};
+ghost use Rattle.machine.specs.Inside.{Ready, ReadyHost, Placed, ReadyKind};
 
 // The place of the orderer's replica of an installed configuration.
 fn orderer_place(state: &[u64], z: usize, j: usize) -> usize
@@ -20,7 +24,7 @@ fn orderer_place(state: &[u64], z: usize, j: usize) -> usize
 }
 
 // The rejection of adopting, 0 where it is accepted: 10, 11, 14, 12, 13.
-pub fn decide(state: &[u64], z: usize, j: usize, host: u64) -> u64
+fn decide(state: &[u64], z: usize, j: usize, host: u64) -> u64
     requires { ⌜ ReadyHost (now state) z j host ⌝ }
     ensures { λ r. ⌜ r ≡ firstOf (adoptChecks (now (state .entry)) z j host) ⌝ }
 {
@@ -57,7 +61,7 @@ fn smaller(a: u64, b: u64) -> u64
 }
 
 // The effect of an accepted adopt: the orderer's words, with the replica's mode and the new stable length.
-pub fn change(state: &mut [u64], z: usize, j: usize, host: u64)
+fn change(state: &mut [u64], z: usize, j: usize, host: u64)
     requires { ⌜ ReadyHost (now state) z j host × (firstOf (adoptChecks (now state) z j host) ≡ 0) ⌝ }
     ensures { λ _. ⌜ now (state .exit) ≡ adoptEffect (now (state .entry)) z j host ⌝ }
 {
@@ -70,4 +74,22 @@ pub fn change(state: &mut [u64], z: usize, j: usize, host: u64)
     copy[0] = state[p];
     let end = p + 64;
     words::copy_words(&mut state[p..end], &copy);
+}
+
+// An adopt on a well-formed state: its rejection and the state as it was, or 0 and its effect.
+pub fn act(state: &mut [u64], shards: usize, s: Step) -> u64
+    requires { ⌜ ReadyKind (Kind.Adopt) (now state) shards s ⌝ }
+    ensures { λ r. ⌜ (r ≡ rejection (now (state .entry)) s) × (now (state .exit) ≡ after (now (state .entry)) s) ⌝ }
+{
+    if !arguments::in_range(Kind::Adopt, shards, s) {
+        return 7;
+    }
+    let z = s.shard() as usize;
+    let j = (s.b - 1) as usize;
+    let number = decide(state, z, j, s.c);
+    if number != 0 {
+        return number;
+    }
+    change(state, z, j, s.c);
+    0
 }

@@ -4,6 +4,7 @@ use model::step::Step;
 ghost use mathlib.Core.Path.{_≡_};
 ghost use mathlib.Core.Bool.{_&&_};
 ghost use lib.Dec.{ltb};
+ghost use Rattle.model.specs.Kinds.{kindOf};
 ghost use Rattle.model.specs.Members.{isHost};
 ghost use Rattle.model.specs.Steps.{areNumbers, inRange};
 ghost use Rattle.machine.specs.Inside.{argumentRejection};
@@ -44,8 +45,9 @@ fn are_numbers(kind: Kind, shards: usize, c: u64, d: u64) -> bool
     }
 }
 
-// Whether the numbers of a step are in range.
-fn in_range(shards: usize, s: Step) -> bool
+// Whether the numbers of a step of a kind are in range.
+pub fn in_range(kind: Kind, shards: usize, s: Step) -> bool
+    requires { ⌜ kindOf (s .kind) ≡ kind ⌝ }
     ensures { λ r. ⌜ r ≡ inRange shards s ⌝ }
 {
     let shard = s.shard();
@@ -59,7 +61,7 @@ fn in_range(shards: usize, s: Step) -> bool
     if 8 < index {
         return false;
     }
-    are_numbers(Kind::of(s.kind), shards, s.c, s.d)
+    are_numbers(kind, shards, s.c, s.d)
 }
 
 // Rejections 3, 4 and 7 of a step, where there are `shards` shards; 0 where none applies.
@@ -73,7 +75,7 @@ pub fn rejection(shards: usize, s: Step) -> u64
     if kind.is_unknown() {
         return 4;
     }
-    if !in_range(shards, s) {
+    if !in_range(kind, shards, s) {
         return 7;
     }
     0

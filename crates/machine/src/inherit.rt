@@ -1,13 +1,18 @@
 // Kind 6, inherit: a pending replica begins from an immutable one of the configuration before.
+use crate::arguments;
 use crate::look;
 use crate::words;
+use model::kind::Kind;
+use model::step::Step;
 ghost use mathlib.Core.Path.{_≡_};
 ghost use Rattle.model.specs.Checks.{firstOf};
 ghost use Rattle.model.specs.Inherit.{inheritChecks, inheritEffect};
+ghost use Rattle.model.specs.Steps.{rejection, after};
+ghost use Rattle.machine.specs.Inside.{ReadyKind};
 ghost use Rattle.machine.specs.InsideInherit.{ReadySource};
 
 // The rejection of inheriting, 0 where it is accepted: 10, 11, 12, 13.
-pub fn decide(state: &[u64], z: usize, j: usize, host: u64, source: u64) -> u64
+fn decide(state: &[u64], z: usize, j: usize, host: u64, source: u64) -> u64
     requires { ⌜ ReadySource (now state) z j host source ⌝ }
     ensures { λ r. ⌜ r ≡ firstOf (inheritChecks (now (state .entry)) z j host source) ⌝ }
 {
@@ -31,7 +36,7 @@ pub fn decide(state: &[u64], z: usize, j: usize, host: u64, source: u64) -> u64
 }
 
 // The effect of an accepted inherit: the source's words, with the mode of an active replica.
-pub fn change(state: &mut [u64], z: usize, j: usize, host: u64, source: u64)
+fn change(state: &mut [u64], z: usize, j: usize, host: u64, source: u64)
     requires { ⌜ ReadySource (now state) z j host source × (firstOf (inheritChecks (now state) z j host source) ≡ 0) ⌝ }
     ensures { λ _. ⌜ now (state .exit) ≡ inheritEffect (now (state .entry)) z j host source ⌝ }
 {
@@ -43,4 +48,22 @@ pub fn change(state: &mut [u64], z: usize, j: usize, host: u64, source: u64)
     copy[0] = 2;
     let end = p + 64;
     words::copy_words(&mut state[p..end], &copy);
+}
+
+// An inherit on a well-formed state: its rejection and the state as it was, or 0 and its effect.
+pub fn act(state: &mut [u64], shards: usize, s: Step) -> u64
+    requires { ⌜ ReadyKind (Kind.Inherit) (now state) shards s ⌝ }
+    ensures { λ r. ⌜ (r ≡ rejection (now (state .entry)) s) × (now (state .exit) ≡ after (now (state .entry)) s) ⌝ }
+{
+    if !arguments::in_range(Kind::Inherit, shards, s) {
+        return 7;
+    }
+    let z = s.shard() as usize;
+    let j = (s.b - 1) as usize;
+    let number = decide(state, z, j, s.c, s.d);
+    if number != 0 {
+        return number;
+    }
+    change(state, z, j, s.c, s.d);
+    0
 }

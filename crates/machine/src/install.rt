@@ -1,13 +1,17 @@
 // Kind 5, install: the next configuration of a shard, issued in the history of its sequencer.
+use crate::arguments;
 use crate::look;
 use crate::look::Seat;
+use model::kind::Kind;
+use model::step::Step;
 ghost use mathlib.Core.Path.{_≡_};
 ghost use lib.ListN.{length};
 ghost use Rattle.model.specs.Checks.{firstOf};
 ghost use Rattle.model.specs.Entries.{isIssueFor, names};
 ghost use Rattle.model.specs.Layout.{sequencer};
 ghost use Rattle.model.specs.Install.{noneBefore, installChecks, putPending, installNext, installEffect};
-ghost use Rattle.machine.specs.Inside.{ReadyHost, Placed};
+ghost use Rattle.model.specs.Steps.{rejection, after};
+ghost use Rattle.machine.specs.Inside.{ReadyHost, Placed, ReadyKind};
 ghost use Rattle.machine.specs.Seats.{seatOf};
 ghost use Rattle.machine.specs.Installs.{ReadyPlace, ReadyNext, ReadyUnused};
 
@@ -55,7 +59,7 @@ fn issuer(state: &[u64], z: usize, j: usize, host: u64) -> Seat
 }
 
 // The rejection of installing, 0 where it is accepted: 10, 11, 20, 21, 22.
-pub fn decide(state: &[u64], z: usize, j: usize, host: u64, place: usize) -> u64
+fn decide(state: &[u64], z: usize, j: usize, host: u64, place: usize) -> u64
     requires { ⌜ ReadyPlace (now state) z j host place ⌝ }
     ensures { λ r. ⌜ r ≡ firstOf (installChecks (now (state .entry)) z j host place) ⌝ }
 {
@@ -109,11 +113,29 @@ fn install_next(state: &mut [u64], z: usize, members: u64, orderer: u64)
 }
 
 // The effect of an accepted install.
-pub fn change(state: &mut [u64], z: usize, j: usize, host: u64, place: usize)
+fn change(state: &mut [u64], z: usize, j: usize, host: u64, place: usize)
     requires { ⌜ ReadyPlace (now state) z j host place × (firstOf (installChecks (now state) z j host place) ≡ 0) ⌝ }
     ensures { λ _. ⌜ now (state .exit) ≡ installEffect (now (state .entry)) z j host place ⌝ }
 {
     let p = issuer(state, z, j, host).place;
     let e = state[p + 8 + place];
     install_next(state, z, e % 65536, e / 65536 % 16);
+}
+
+// An install on a well-formed state: its rejection and the state as it was, or 0 and its effect.
+pub fn act(state: &mut [u64], shards: usize, s: Step) -> u64
+    requires { ⌜ ReadyKind (Kind.Install) (now state) shards s ⌝ }
+    ensures { λ r. ⌜ (r ≡ rejection (now (state .entry)) s) × (now (state .exit) ≡ after (now (state .entry)) s) ⌝ }
+{
+    if !arguments::in_range(Kind::Install, shards, s) {
+        return 7;
+    }
+    let z = s.shard() as usize;
+    let j = (s.b - 1) as usize;
+    let number = decide(state, z, j, s.c, s.d as usize);
+    if number != 0 {
+        return number;
+    }
+    change(state, z, j, s.c, s.d as usize);
+    0
 }

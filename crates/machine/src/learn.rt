@@ -1,10 +1,14 @@
 // Kind 3, learn persistence: a longer prefix of a replica's history is stable.
+use crate::arguments;
 use crate::look;
+use model::kind::Kind;
+use model::step::Step;
 ghost use mathlib.Core.Path.{_≡_};
 ghost use Prim.Native.Nat.{_≤_};
 ghost use Rattle.model.specs.Checks.{firstOf};
 ghost use Rattle.model.specs.Learn.{learnChecks, learnEffect};
-ghost use Rattle.machine.specs.Inside.{ReadyHost};
+ghost use Rattle.model.specs.Steps.{rejection, after};
+ghost use Rattle.machine.specs.Inside.{ReadyHost, ReadyKind};
 ghost use Rattle.machine.specs.AlikeWords.{Compared, allAlikeAt};
 
 // Whether the `size` replicas from `first` on have n entries at least, and the first n like those of the replica at `own`.
@@ -31,7 +35,7 @@ fn all_alike(state: &[u64], first: usize, size: usize, n: usize, own: usize) -> 
 }
 
 // The rejection of learning that n entries are stable, 0 where it is accepted: 10, 11, 12, 18, 19.
-pub fn decide(state: &[u64], z: usize, j: usize, host: u64, n: u64) -> u64
+fn decide(state: &[u64], z: usize, j: usize, host: u64, n: u64) -> u64
     requires { ⌜ ReadyHost (now state) z j host × (n ≤ 56) ⌝ }
     ensures { λ r. ⌜ r ≡ firstOf (learnChecks (now (state .entry)) z j host n) ⌝ }
 {
@@ -54,10 +58,28 @@ pub fn decide(state: &[u64], z: usize, j: usize, host: u64, n: u64) -> u64
 }
 
 // The effect of an accepted learn.
-pub fn change(state: &mut [u64], z: usize, j: usize, host: u64, n: u64)
+fn change(state: &mut [u64], z: usize, j: usize, host: u64, n: u64)
     requires { ⌜ ReadyHost (now state) z j host × (firstOf (learnChecks (now state) z j host n) ≡ 0) ⌝ }
     ensures { λ _. ⌜ now (state .exit) ≡ learnEffect (now (state .entry)) z j host n ⌝ }
 {
     let p = look::find(state, z, j, host).place;
     state[p + 2] = n;
+}
+
+// A learn on a well-formed state: its rejection and the state as it was, or 0 and its effect.
+pub fn act(state: &mut [u64], shards: usize, s: Step) -> u64
+    requires { ⌜ ReadyKind (Kind.Learn) (now state) shards s ⌝ }
+    ensures { λ r. ⌜ (r ≡ rejection (now (state .entry)) s) × (now (state .exit) ≡ after (now (state .entry)) s) ⌝ }
+{
+    if !arguments::in_range(Kind::Learn, shards, s) {
+        return 7;
+    }
+    let z = s.shard() as usize;
+    let j = (s.b - 1) as usize;
+    let number = decide(state, z, j, s.c, s.d);
+    if number != 0 {
+        return number;
+    }
+    change(state, z, j, s.c, s.d);
+    0
 }

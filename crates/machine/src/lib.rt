@@ -1,11 +1,11 @@
 // Setup and step: the machine over a borrowed state of 64-bit words.
+use model::kind::Kind;
 use model::step::Step;
 ghost use mathlib.Core.Path.{_≡_};
 ghost use Rattle.model.specs.Setup.{setupRejection, afterSetup};
 ghost use Rattle.model.specs.Steps.{rejection, after};
 ghost use Rattle.machine.specs.Inside.{Formed};
 
-mod act;
 mod add;
 mod adopt;
 mod arguments;
@@ -48,17 +48,24 @@ pub fn step(state: &mut [u64], s: Step) -> u64
     if !wellformed::well_formed(state) {
         return 9;
     }
-    act::act(state, s)
+    step_inside(state, s)
 }
 
-// A step on a state that is known to be well-formed, which is not scanned again.
+// A step on a state that is known to be well-formed, which is not scanned again. The kind is looked at once.
 pub fn step_inside(state: &mut [u64], s: Step) -> u64
     requires { ⌜ Formed (now state) ⌝ }
     ensures { λ r. ⌜ (r ≡ rejection (now (state .entry)) s) × (now (state .exit) ≡ after (now (state .entry)) s) ⌝ }
 {
-    let early = arguments::rejection(wellformed::shard_count(state.len()), s);
-    if early != 0 {
-        return early;
+    let shards = wellformed::shard_count(state.len());
+    let kind = Kind::of(s.kind);
+    match kind {
+        Kind::Add => add::act(state, shards, s),
+        Kind::Adopt => adopt::act(state, shards, s),
+        Kind::Learn => learn::act(state, shards, s),
+        Kind::Wedge => wedge::act(state, shards, s),
+        Kind::Install => install::act(state, shards, s),
+        Kind::Inherit => inherit::act(state, shards, s),
+        Kind::Kept => 3,
+        Kind::Unknown => 4,
     }
-    act::act(state, s)
 }

@@ -1,13 +1,16 @@
 // Kind 4, wedge: an active replica becomes immutable.
+use crate::arguments;
 use crate::look;
+use model::kind::Kind;
+use model::step::Step;
 ghost use mathlib.Core.Path.{_≡_};
-ghost use mathlib.Core.Bool.{true};
 ghost use Rattle.model.specs.Checks.{firstOf};
 ghost use Rattle.model.specs.Wedge.{wedgeChecks, wedgeEffect};
-ghost use Rattle.machine.specs.Inside.{ReadyHost};
+ghost use Rattle.model.specs.Steps.{rejection, after};
+ghost use Rattle.machine.specs.Inside.{ReadyHost, ReadyKind};
 
 // The rejection of wedging, 0 where it is accepted: 10, 11, 12.
-pub fn decide(state: &[u64], z: usize, j: usize, host: u64) -> u64
+fn decide(state: &[u64], z: usize, j: usize, host: u64) -> u64
     requires { ⌜ ReadyHost (now state) z j host ⌝ }
     ensures { λ r. ⌜ r ≡ firstOf (wedgeChecks (now (state .entry)) z j host) ⌝ }
 {
@@ -23,10 +26,28 @@ pub fn decide(state: &[u64], z: usize, j: usize, host: u64) -> u64
 }
 
 // The effect of an accepted wedge.
-pub fn change(state: &mut [u64], z: usize, j: usize, host: u64)
+fn change(state: &mut [u64], z: usize, j: usize, host: u64)
     requires { ⌜ ReadyHost (now state) z j host × (firstOf (wedgeChecks (now state) z j host) ≡ 0) ⌝ }
     ensures { λ _. ⌜ now (state .exit) ≡ wedgeEffect (now (state .entry)) z j host ⌝ }
 {
     let p = look::find(state, z, j, host).place;
     state[p] = 3;
+}
+
+// A wedge on a well-formed state: its rejection and the state as it was, or 0 and its effect.
+pub fn act(state: &mut [u64], shards: usize, s: Step) -> u64
+    requires { ⌜ ReadyKind (Kind.Wedge) (now state) shards s ⌝ }
+    ensures { λ r. ⌜ (r ≡ rejection (now (state .entry)) s) × (now (state .exit) ≡ after (now (state .entry)) s) ⌝ }
+{
+    if !arguments::in_range(Kind::Wedge, shards, s) {
+        return 7;
+    }
+    let z = s.shard() as usize;
+    let j = (s.b - 1) as usize;
+    let number = decide(state, z, j, s.c);
+    if number != 0 {
+        return number;
+    }
+    change(state, z, j, s.c);
+    0
 }

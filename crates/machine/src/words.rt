@@ -1,13 +1,15 @@
 // The words of histories and replicas.
 ghost use mathlib.Core.Path.{_≡_};
-ghost use lib.ListN.{length};
+ghost use Prim.Native.Nat.{_≤_};
+ghost use lib.ListN.{length, drop};
 ghost use Rattle.model.specs.Tests.{contains};
 
-// Whether an entry stands in a history.
-pub fn has_entry(history: &[u64], e: u64) -> bool
-    ensures { λ r. ⌜ r ≡ contains e (now (history .entry)) ⌝ }
+// Whether an entry stands in a history from a place on.
+fn has_entry_from(history: &[u64], from: usize, e: u64) -> bool
+    requires { ⌜ from ≤ length (now history) ⌝ }
+    ensures { λ r. ⌜ r ≡ contains e (drop from (now (history .entry))) ⌝ }
 {
-    let mut i = 0;
+    let mut i = from;
     while i < history.len() {
         if history[i] == e {
             return true;
@@ -15,6 +17,29 @@ pub fn has_entry(history: &[u64], e: u64) -> bool
         i += 1;
     }
     false
+}
+
+// Whether an entry stands in a history: four at a time, which is faster, and then the rest.
+pub fn has_entry(history: &[u64], e: u64) -> bool
+    ensures { λ r. ⌜ r ≡ contains e (now (history .entry)) ⌝ }
+{
+    let mut i = 0;
+    while 4 <= history.len() - i {
+        if history[i] == e {
+            return true;
+        }
+        if history[i + 1] == e {
+            return true;
+        }
+        if history[i + 2] == e {
+            return true;
+        }
+        if history[i + 3] == e {
+            return true;
+        }
+        i += 4;
+    }
+    has_entry_from(history, i, e)
 }
 
 // All 64 words of a replica, from a copy.

@@ -4,11 +4,10 @@ use Prim.Native.Nat.{ℕ}
 use mathlib.Core.Path.{_≡_, refl}
 use lib.ListN.{length}
 use Rattle.model.specs.Layout.{shardsOf}
-use Rattle.model.proofs.WellFormedSteps.{step-length}
 use mathlib.Core.Path.{sym, ap, _∙_}
 use borrow.Author.Tests.{not-true, not-false}
 use Rattle.machine.specs.Inside.{argumentRejection}
-use Rattle.machine.proofs.Entry.{rejects-length, rejects-early, rejects-form, acts, ready-step}
+use Rattle.machine.proofs.Entry.{rejects-length, rejects-early, rejects-form, formed-of}
 use Rattle.machine.proofs.step.Statement.{statement}
 use Rattle.machine.proofs.step.Tie as tie
 
@@ -43,28 +42,17 @@ returns-3 c =
     let r = c .before .before .before .before .rejection .ensures ∙ ap (λ (z : ℕ). argumentRejection z (a .s)) (c .before .before .before .before .before .before .shard-count .ensures) in
     rejects-form (a .state .now) (a .s) n (sym r ∙ c .before .before .before .if2 .left) (sym (c .before .well-formed .ensures) ∙ not-true _ (c .if3 .taken))
 
-act-requires : tie.Need-act-requires
-act-requires c κs =
-    let a = c .before .before .before .before .before .before .before .before .before .args in
-    let n : shardsOf (length (a .state .now)) ≡ 0 → ⊥ = λ q. c .before .before .before .before .before .before .if1 .left (c .before .before .before .before .before .before .before .shard-count .ensures ∙ q) in
-    let r = c .before .before .before .before .before .rejection .ensures ∙ ap (λ (z : ℕ). argumentRejection z (a .s)) (c .before .before .before .before .before .before .before .shard-count .ensures) in
-    ready-step (a .state .now) (a .s) n (sym r ∙ c .before .before .before .before .if2 .left) (sym (c .before .before .well-formed .ensures) ∙ not-false _ (c .before .if3 .left))
+step-inside-requires : tie.Need-step-inside-requires
+step-inside-requires c κs =
+    let o = c .before .before .before .before .before .before in
+    let n : shardsOf (length (o .before .before .before .args .state .now)) ≡ 0 → ⊥ = λ q. o .if1 .left (o .before .shard-count .ensures ∙ q) in
+    formed-of _ n (sym (c .before .before .well-formed .ensures) ∙ not-false _ (c .before .if3 .left))
 
 same-length-2 : tie.Need-same-length-2
-same-length-2 c =
-    let a = c .before .before .before .before .before .before .before .before .before .before .before .before .args in
-    let n : shardsOf (length (a .state .now)) ≡ 0 → ⊥ = λ q. c .before .before .before .before .before .before .before .before .before .if1 .left (c .before .before .before .before .before .before .before .before .before .before .shard-count .ensures ∙ q) in
-    let r = c .before .before .before .before .before .before .before .before .rejection .ensures ∙ ap (λ (z : ℕ). argumentRejection z (a .s)) (c .before .before .before .before .before .before .before .before .before .before .shard-count .ensures) in
-    let d = acts (a .state .now) (a .s) n (sym r ∙ c .before .before .before .before .before .before .before .if2 .left) (sym (c .before .before .before .before .before .well-formed .ensures) ∙ not-false _ (c .before .before .before .before .if3 .left)) in
-    ap length (c .before .before .act .ensures .1 ∙ d .1) ∙ step-length (a .state .now) (a .s)
+same-length-2 c = search needs
 
 returns-4 : tie.Need-returns-4
-returns-4 c =
-    let a = c .before .before .before .before .before .before .before .before .before .before .before .before .args in
-    let n : shardsOf (length (a .state .now)) ≡ 0 → ⊥ = λ q. c .before .before .before .before .before .before .before .before .before .if1 .left (c .before .before .before .before .before .before .before .before .before .before .shard-count .ensures ∙ q) in
-    let r = c .before .before .before .before .before .before .before .before .rejection .ensures ∙ ap (λ (z : ℕ). argumentRejection z (a .s)) (c .before .before .before .before .before .before .before .before .before .before .shard-count .ensures) in
-    let d = acts (a .state .now) (a .s) n (sym r ∙ c .before .before .before .before .before .before .before .if2 .left) (sym (c .before .before .before .before .before .well-formed .ensures) ∙ not-false _ (c .before .before .before .before .if3 .left)) in
-    (c .before .before .act .ensures .0 ∙ d .0, c .before .before .act .ensures .1 ∙ d .1)
+returns-4 c = c .before .before .step-inside .ensures
 
 pub step-spec : {M : Type 1} → statement M
-step-spec = tie.close (tie.spec shard-count-requires returns rejection-requires returns-2 well-formed-requires same-length returns-3 act-requires same-length-2 returns-4)
+step-spec = tie.close (tie.spec shard-count-requires returns rejection-requires returns-2 well-formed-requires same-length returns-3 step-inside-requires same-length-2 returns-4)

@@ -1,33 +1,33 @@
 -- `capi::steps::penkwadar_read_step` meets its contract. Each arm writes the words of what was read.
-use mathlib.Core.Path.{sym, _∙_}
+use Prim.Native.Nat.{_-_}
+use native.Mathlib.Omega.{arith}
+use mathlib.Core.Path.{_≡_, sym, _∙_}
+use lib.ListN.{length, drop, length-drop}
+use lib.Seq.{take-all}
 use borrow.Author.Needs.{needs}
 use Rattle.model.specs.declared.Reading.the-variants.{Step as Read, End, Rejected}
+use Rattle.model.specs.Log.{readStep, from}
 use Rattle.model.specs.Results.{readingNumber}
+use Rattle.log.proofs.StepParts.{step-none, step-from, step-inside}
 use Rattle.capi.specs.Steps.{readingWords}
 use Rattle.capi.proofs.StepWords.{read-short, read}
 use Rattle.capi.proofs.steps.penkwadar_read_step.Statement.{statement}
 use Rattle.capi.proofs.steps.penkwadar_read_step.Tie as tie
 
+-- the function's entry, from the place after the first step of the bytes from the position on
+abbrev entry : tie.After-first-step → tie.Start
+entry f = f .before .before .before .before .before .before
+
+rest : (f : tie.After-first-step) → let a = entry f .args in f .first-step .result ≡ readStep (drop (a .at) (a .log .now))
+rest f =
+    let a = entry f .args in
+    rw (take-all (length (a .log .now) - a .at) (drop (a .at) (a .log .now)) (omega (arith, length-drop (a .at) (a .log .now)))) at (f .first-step .ensures)
+
 returns : tie.Need-returns
 returns c = read-short _ _ _ (c .if1 .taken)
 
-read-step-requires : tie.Need-read-step-requires
-read-step-requires c κs = search needs
-
-enum-known-s : tie.Need-enum-known-s
-enum-known-s c = search needs
-
 put-step-requires : tie.Need-put-step-requires
 put-step-requires c κs = search needs
-
-enum-told : tie.Need-enum-told
-enum-told c = search needs
-
-put-step-requires-2 : tie.Need-put-step-requires-2
-put-step-requires-2 c κs = search needs
-
-enum-known-r : tie.Need-enum-known-r
-enum-known-r c = search needs
 
 same-length : tie.Need-same-length
 same-length c = search needs
@@ -35,39 +35,94 @@ same-length c = search needs
 returns-2 : tie.Need-returns-2
 unfolding readingNumber readingWords
 returns-2 c =
-    let k = c .before .before .before .before .before in
-    let d = read _ _ _ (k .before .before .before .if1 .left) (Read (k .s .given .0 .0) (k .s .given .0 .1 .0)) (sym (k .before .before .read-step .ensures) ∙ k .s .given .1) in
+    let t = c .before .before .before .before in
+    let d = read _ _ _ (t .before .if1 .left) End (sym (step-none _ _ (t .if2 .taken))) in
     (d .0, c .before .before .put-step .ensures ∙ d .1)
+
+sub-first-step : tie.Need-sub-first-step
+sub-first-step c = search needs
+
+part-first-step-start : tie.Need-part-first-step-start
+part-first-step-start c = search needs
+
+part-first-step-end : tie.Need-part-first-step-end
+part-first-step-end c = search needs
+
+first-step-requires : tie.Need-first-step-requires
+first-step-requires c κs = search needs
+
+enum-known-s : tie.Need-enum-known-s
+enum-known-s c = search needs
+
+add-put-step : tie.Need-add-put-step
+add-put-step c =
+    let k = c .before .before in
+    let f = k .before .before in
+    let a = entry f .args in
+    omega (arith, step-inside (a .log .now) (a .at) (rest f) (k .s .given .1))
+
+put-step-requires-2 : tie.Need-put-step-requires-2
+put-step-requires-2 c κs = search needs
+
+enum-told : tie.Need-enum-told
+enum-told c = search needs
+
+put-step-requires-3 : tie.Need-put-step-requires-3
+put-step-requires-3 c κs = search needs
+
+enum-known-r : tie.Need-enum-known-r
+enum-known-r c = search needs
 
 same-length-2 : tie.Need-same-length-2
 same-length-2 c = search needs
 
 returns-3 : tie.Need-returns-3
-unfolding readingNumber readingWords
+unfolding from readingNumber readingWords
 returns-3 c =
-    let k = c .before .before .before .before in
-    let d = read _ _ _ (k .before .before .before .if1 .left) End (sym (k .before .before .read-step .ensures) ∙ k .enum-told .given .1) in
+    let k = c .before .before .before .before .before in
+    let f = k .before .before in
+    let x = Read (k .s .given .0 .0) (k .s .given .0 .1 .0) in
+    let d = read _ _ _ (f .before .before .before .if1 .left) (from (entry f .args .at) x) (sym (step-from _ _ (rest f) (k .s .given .1))) in
     (d .0, c .before .before .put-step2 .ensures ∙ d .1)
 
+same-length-3 : tie.Need-same-length-3
+same-length-3 c = search needs
+
 returns-4 : tie.Need-returns-4
-unfolding readingNumber readingWords
+unfolding from readingNumber readingWords
 returns-4 c =
+    let k = c .before .before .before .before in
+    let f = k .before .before in
+    let d = read _ _ _ (f .before .before .before .if1 .left) End (sym (step-from _ _ (rest f) (k .enum-told .given .1))) in
+    (d .0, c .before .before .put-step3 .ensures ∙ d .1)
+
+returns-5 : tie.Need-returns-5
+unfolding from readingNumber readingWords
+returns-5 c =
     let k = c .before in
-    read _ _ _ (k .before .before .before .if1 .left) (Rejected (k .r .given .0 .0)) (sym (k .before .before .read-step .ensures) ∙ k .r .given .1)
+    let f = k .before .before in
+    read _ _ _ (f .before .before .before .if1 .left) (Rejected (k .r .given .0 .0)) (sym (step-from _ _ (rest f) (k .r .given .1)))
 
 pub penkwadar-read-step-spec : {M : Type 1} → statement M
 penkwadar-read-step-spec =
     tie.close
     (tie.spec
     returns
-    read-step-requires
-    enum-known-s
     put-step-requires
-    enum-told
-    put-step-requires-2
-    enum-known-r
     same-length
     returns-2
+    sub-first-step
+    part-first-step-start
+    part-first-step-end
+    first-step-requires
+    enum-known-s
+    add-put-step
+    put-step-requires-2
+    enum-told
+    put-step-requires-3
+    enum-known-r
     same-length-2
     returns-3
-    returns-4)
+    same-length-3
+    returns-4
+    returns-5)

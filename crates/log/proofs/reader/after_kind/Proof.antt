@@ -17,20 +17,17 @@ returns c =
     let r = c .before in
     kind-rejected _ _ _ _ (rw (r .before .of .ensures) at (r .rejection .ensures)) (c .if1 .taken)
 
-used-requires : tie.Need-used-requires
-used-requires c κs = search needs
-
 read-a-requires : tie.Need-read-a-requires
 read-a-requires c κs = search needs
 
 returns-2 : tie.Need-returns-2
 returns-2 c =
-    let r = c .before .before .before in
+    let r = c .before .before in
     let a = r .before .before .before .args in
-    let k = kind-known _ (sym (rw (r .before .of .ensures) at (r .rejection .ensures)) ∙ c .before .before .if1 .left) in
-    kind-taken (a .log .now) (a .at) (a .kind) k (rw (c .before .used .ensures, r .before .of .ensures) at (c .read-a .ensures))
+    let k = kind-known _ (sym (rw (r .before .of .ensures) at (r .rejection .ensures)) ∙ c .before .if1 .left) in
+    kind-taken (a .log .now) (a .at) (a .kind) k (c .read-a .ensures)
 
 pub after-kind-spec : {M : Type 1} → statement M
 after-kind-spec =
     tie.close
-    (tie.spec of-requires rejection-requires returns used-requires read-a-requires returns-2)
+    (tie.spec of-requires rejection-requires returns read-a-requires returns-2)

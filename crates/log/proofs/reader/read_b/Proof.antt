@@ -30,14 +30,14 @@ returns : tie.Need-returns
 returns c =
     let s = c .before .before .before .before in
     let a = s .before .before .args in
-    step-more (a .kind) (a .a ∷ []) (a .log .now) (a .at) (s .read-number .ensures) (suc (fourth (a .used)))
+    step-more (a .kind) (a .a ∷ []) (a .log .now) (a .at) (s .read-number .ensures) (suc (fourth (a .kind)))
     (c .before .before .value .given .1) (c .read-c .ensures)
 
 returns-2 : tie.Need-returns-2
 returns-2 c =
     let s = c .before .before .before in
     let a = s .before .before .args in
-    step-rejected (a .kind) (a .a ∷ []) (a .log .now) (a .at) (s .read-number .ensures) (suc (fourth (a .used))) (c .before .r .given .1)
+    step-rejected (a .kind) (a .a ∷ []) (a .log .now) (a .at) (s .read-number .ensures) (suc (fourth (a .kind))) (c .before .r .given .1)
 
 pub read-b-spec : {M : Type 1} → statement M
 read-b-spec =

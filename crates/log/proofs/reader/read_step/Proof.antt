@@ -1,52 +1,82 @@
--- `read_step` meets its contract: the end, a kind that cannot be read, or what follows the kind. Assumes nothing.
+-- `read_step` meets its contract: the end, or the first step of the bytes from the position on. Assumes nothing.
+use Prim.Native.Nat.{_-_}
 use native.Mathlib.Omega.{arith}
+use mathlib.Core.Path.{_≡_}
+use lib.ListN.{length, drop, length-drop}
+use lib.Seq.{take-all}
 use borrow.Author.Needs.{needs}
-use Rattle.log.proofs.StepParts.{number-inside, step-none, step-kind, step-no-kind}
+use Rattle.model.specs.Log.{readStep, from}
+use Rattle.log.proofs.StepParts.{step-none, step-from, step-inside}
 use Rattle.log.proofs.reader.read_step.Statement.{statement}
 use Rattle.log.proofs.reader.read_step.Tie as tie
 
 returns : tie.Need-returns
 returns c = step-none _ _ (c .if1 .taken)
 
-read-number-requires : tie.Need-read-number-requires
-read-number-requires c κs = search needs
+sub-first-step : tie.Need-sub-first-step
+sub-first-step c = search needs
 
-enum-known-value : tie.Need-enum-known-value
-enum-known-value c = search needs
+part-first-step-start : tie.Need-part-first-step-start
+part-first-step-start c = search needs
 
-add-after-kind : tie.Need-add-after-kind
-add-after-kind c =
+part-first-step-end : tie.Need-part-first-step-end
+part-first-step-end c = search needs
+
+first-step-requires : tie.Need-first-step-requires
+first-step-requires c κs = search needs
+
+-- what is read in the bytes from the position on
+rest : (c : tie.After-first-step) → let a = c .before .before .before .before .args in c .first-step .result ≡ readStep (drop (a .at) (a .log .now))
+rest c =
+    let a = c .before .before .before .before .args in
+    rw (take-all (length (a .log .now) - a .at) (drop (a .at) (a .log .now)) (omega (arith, length-drop (a .at) (a .log .now)))) at (c .first-step .ensures)
+
+enum-known-step : tie.Need-enum-known-step
+enum-known-step c = search needs
+
+add-t13 : tie.Need-add-t13
+add-t13 c =
     let s = c .before .before .before in
-    let a = s .before .before .before .args in
-    omega (arith, number-inside (a .log .now) (a .at) (s .read-number .ensures) (c .before .value .given .1))
+    let a = s .before .before .before .before .args in
+    omega (arith, step-inside (a .log .now) (a .at) (rest s) (c .before .step .given .1), s .before .before .if1 .left)
 
-after-kind-requires : tie.Need-after-kind-requires
-after-kind-requires c κs = search needs
+enum-told : tie.Need-enum-told
+enum-told c = search needs
 
 enum-known-r : tie.Need-enum-known-r
 enum-known-r c = search needs
 
 returns-2 : tie.Need-returns-2
+unfolding from
 returns-2 c =
-    let s = c .before .before .before .before in
-    let a = s .before .before .before .args in
-    step-kind (a .log .now) (a .at) (s .before .if1 .left) (s .read-number .ensures) (c .before .before .value .given .1) (c .after-kind .ensures)
+    let s = c .before .before .before in
+    step-from _ _ (rest s) (c .before .step .given .1)
 
 returns-3 : tie.Need-returns-3
+unfolding from
 returns-3 c =
+    let s = c .before .before in
+    step-from _ _ (rest s) (c .enum-told .given .1)
+
+returns-4 : tie.Need-returns-4
+unfolding from
+returns-4 c =
     let s = c .before .before .before in
-    let a = s .before .before .before .args in
-    step-no-kind (a .log .now) (a .at) (s .before .if1 .left) (s .read-number .ensures) (c .before .r .given .1)
+    step-from _ _ (rest s) (c .before .r .given .1)
 
 pub read-step-spec : {M : Type 1} → statement M
 read-step-spec =
     tie.close
     (tie.spec
     returns
-    read-number-requires
-    enum-known-value
-    add-after-kind
-    after-kind-requires
+    sub-first-step
+    part-first-step-start
+    part-first-step-end
+    first-step-requires
+    enum-known-step
+    add-t13
+    enum-told
     enum-known-r
     returns-2
-    returns-3)
+    returns-3
+    returns-4)

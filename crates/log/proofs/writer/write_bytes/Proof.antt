@@ -7,7 +7,7 @@ use borrow.Author.Tests.{le-leb, lt-leb}
 use borrow.Author.Needs.{needs}
 use Rattle.model.specs.Numbers.{numberBytes}
 use Rattle.log.specs.Writer.{bytesOf}
-use Rattle.log.proofs.Progress.{Progress, progress-first, progress-next, progress-room, progress-done}
+use Rattle.log.proofs.Progress.{Progress, progress-first, progress-next, progress-room, progress-end, progress-done}
 use Rattle.log.proofs.writer.write_bytes.Statement.{statement}
 use Rattle.log.proofs.writer.write_bytes.Tie as tie
 
@@ -113,7 +113,8 @@ returns c =
     let w = c .before .before in
     let l = w .before .before .before .before .before in
     let d = numberBytes (entry-4 l .args .s .d) in
-    progress-done (progress-next d [] (only-d l (w .before .before .if1 .taken)) (w .write-number5 .ensures .0) (w .write-number5 .ensures .1))
+    let t = progress-next d [] (only-d l (w .before .before .if1 .taken)) (w .write-number5 .ensures .0) (w .write-number5 .ensures .1) in
+    (progress-end t, progress-done t)
 
 same-length-2 : tie.Need-same-length-2
 same-length-2 c = search needs
@@ -121,7 +122,8 @@ same-length-2 c = search needs
 returns-2 : tie.Need-returns-2
 returns-2 c =
     let l = c .before .before .before in
-    progress-done (rw (lt-leb 4 (entry-4 l .args .used) (c .if1 .left)) at (at-d l))
+    let t = rw (lt-leb 4 (entry-4 l .args .used) (c .if1 .left)) at (at-d l) in
+    (progress-end t, progress-done t)
 
 pub write-bytes-spec : {M : Type 1} → statement M
 write-bytes-spec =

@@ -1,16 +1,17 @@
 -- `write_step` meets its contract: each rejection leaves the output untouched; else there is room for all bytes. Assumes nothing.
-use Prim.Native.Nat.{_+_, _≤_}
+use Prim.Native.Nat.{_+_, _-_, _≤_}
 use native.Mathlib.Omega.{arith}
 use mathlib.Core.Path.{_≡_, sym, _∙_}
 use mathlib.Core.Bool.{true}
+use lib.Dec.{leb}
 use lib.ListN.{length}
-use borrow.Author.Tests.{not-true, not-false}
+use borrow.Author.Tests.{leb-true, leb-false, not-true, not-false}
 use borrow.Author.Needs.{needs}
 use Rattle.model.specs.Kinds.{kindOf}
 use Rattle.model.proofs.RoundTrip.{kind-below}
-use Rattle.log.specs.Kinds.{kindRejection}
+use Rattle.log.specs.Kinds.{kindRejection, Known}
 use Rattle.log.specs.Writer.{writable, bytesOf}
-use Rattle.log.proofs.KindTests.{Known, kind-known}
+use Rattle.log.proofs.KindTests.{kind-known}
 use Rattle.log.proofs.Rejections.{usedBy, kind-refused, numbers-refused, room-refused, room, written, left}
 use Rattle.log.proofs.writer.write_step.Statement.{statement}
 use Rattle.log.proofs.writer.write_step.Tie as tie
@@ -25,8 +26,8 @@ entry-2 c = entry-1 (c .before .before)
 abbrev entry-3 : tie.Else2 → tie.Start
 entry-3 c = entry-2 (c .before .before)
 
-abbrev entry-4 : tie.After-step-length → tie.Start
-entry-4 c = entry-3 (c .before)
+abbrev before-room : tie.After-has-room → tie.Else2
+before-room c = c .before
 
 -- the kind's rejection, and that a kind without one is known
 kind-number : (c : tie.After-rejection) → c .rejection .result ≡ kindRejection (kindOf (entry-1 c .args .s .kind))
@@ -43,13 +44,14 @@ used-number c = rw (c .before .before .before .of .ensures) at (c .used .ensures
 small : (c : tie.Else2) → writable (entry-3 c .args .s) (usedBy (entry-3 c .args .s)) ≡ true
 small c = rw (used-number (c .before .before)) at (sym (c .before .are-writable .ensures) ∙ not-false _ (c .if2 .left))
 
--- the count of bytes, and that the output has room for them
-total : (c : tie.After-step-length) → c .step-length .result ≡ length (bytesOf (entry-4 c .args .s) (usedBy (entry-4 c .args .s)))
-total c = rw (used-number (c .before .before .before)) at (c .step-length .ensures)
+-- whether the output has room for the bytes
+room-test :
+    (c : tie.After-has-room)
+    → let a = entry-3 (before-room c) .args in c .has-room .result ≡ leb (a .at + length (bytesOf (a .s) (usedBy (a .s)))) (length (a .out .now))
+room-test c = rw (used-number (before-room c .before .before)) at (c .has-room .ensures)
 
-fits :
-    (c : tie.Else4) → let a = entry-4 (c .before .before) .args in a .at + length (bytesOf (a .s) (usedBy (a .s))) ≤ length (a .out .now)
-fits c = omega (arith, total (c .before .before), c .before .if3 .left, c .if4 .left)
+fits : (c : tie.Else3) → let a = entry-3 (before-room (c .before)) .args in a .at + length (bytesOf (a .s) (usedBy (a .s))) ≤ length (a .out .now)
+fits c = leb-true _ _ (sym (room-test (c .before)) ∙ not-false _ (c .if3 .left))
 
 of-requires : tie.Need-of-requires
 of-requires c κs = search needs
@@ -77,50 +79,44 @@ returns-2 c =
     let r = numbers-refused (a .out .now) (a .at) (a .s) (known u) e in
     (r .answer, r .untouched)
 
-step-length-requires : tie.Need-step-length-requires
-step-length-requires c κs =
+has-room-requires : tie.Need-has-room-requires
+has-room-requires c κs =
     let k = known (c .before .before) in
     omega (arith, kind-below _ (k .notKept) (k .known))
 
 returns-3 : tie.Need-returns-3
 returns-3 c =
-    let l = c .before in
-    let a = entry-4 l .args in
-    let k = known (l .before .before .before) in
-    let r = room-refused (a .out .now) (a .at) (a .s) k (small (l .before)) (omega (arith, total l, c .if3 .taken)) in
-    (r .answer, r .untouched)
-
-sub-if4 : tie.Need-sub-if4
-sub-if4 c = search needs
-
-returns-4 : tie.Need-returns-4
-returns-4 c =
-    let l = c .before .before in
-    let a = entry-4 l .args in
-    let k = known (l .before .before .before) in
-    let r = room-refused (a .out .now) (a .at) (a .s) k (small (l .before)) (omega (arith, total l, c .before .if3 .left, c .if4 .taken)) in
+    let l = before-room (c .before) in
+    let a = entry-3 l .args in
+    let h = leb-false _ _ (sym (room-test (c .before)) ∙ not-true _ (c .if3 .taken)) in
+    let r = room-refused (a .out .now) (a .at) (a .s) (known (l .before .before)) (small l) h in
     (r .answer, r .untouched)
 
 write-bytes-requires : tie.Need-write-bytes-requires
 write-bytes-requires c κs =
-    let l = c .before .before .before in
-    let a = entry-4 l .args in
-    let u = l .before .before .before in
-    rw (used-number u) (room (a .out .now) (a .at) (a .s) (known u) (small (l .before)) (fits (c .before)))
+    let l = before-room (c .before .before) in
+    let a = entry-3 l .args in
+    let u = l .before .before in
+    rw (used-number u) (room (a .out .now) (a .at) (a .s) (known u) (small l) (fits (c .before)))
+
+sub-t10 : tie.Need-sub-t10
+sub-t10 c = search needs
 
 same-length : tie.Need-same-length
 same-length c = search needs
 
-returns-5 : tie.Need-returns-5
-returns-5 c =
+returns-4 : tie.Need-returns-4
+returns-4 c =
     let w = c .before .before in
-    let l = w .before .before .before .before in
-    let a = entry-4 l .args in
-    let u = l .before .before .before in
+    let l = before-room (w .before .before .before) in
+    let a = entry-3 l .args in
+    let u = l .before .before in
     let h = fits (w .before .before) in
-    let bytes = rw (used-number u) at (w .write-bytes .ensures) in (
-      rw (total l) (written (a .out .now) (a .at) (a .s) (known u) (small (l .before)) h),
-      bytes ∙ left (a .out .now) (a .at) (a .s) (known u) (small (l .before)) h,
+    let n = length (bytesOf (a .s) (usedBy (a .s))) in
+    let e = rw (used-number u) at (w .write-bytes .ensures) in
+    let count : w .write-bytes .result - a .at ≡ n = omega (arith, e .0) in (
+      rw count (written (a .out .now) (a .at) (a .s) (known u) (small l) h),
+      e .1 ∙ left (a .out .now) (a .at) (a .s) (known u) (small l) h,
     )
 
 pub write-step-spec : {M : Type 1} → statement M
@@ -133,10 +129,9 @@ write-step-spec =
     used-requires
     are-writable-requires
     returns-2
-    step-length-requires
+    has-room-requires
     returns-3
-    sub-if4
-    returns-4
     write-bytes-requires
+    sub-t10
     same-length
-    returns-5)
+    returns-4)

@@ -21,9 +21,6 @@ returns-3 : tie.Need-returns-3
 unfolding inRange shardOf
 returns-3 c = simp (sym (c .before .before .before .shard .ensures), lt-ltb _ _ (c .before .before .if1 .left), le-leb _ _ (c .before .if2 .left), lt-leb _ _ (c .if3 .taken))
 
-of-requires : tie.Need-of-requires
-of-requires c κs = search needs
-
 are-numbers-requires : tie.Need-are-numbers-requires
 are-numbers-requires c κs = search needs
 
@@ -32,11 +29,11 @@ unfolding inRange shardOf
 returns-4 c =
     simp (
       c .are-numbers .ensures,
-      c .before .of .ensures,
-      sym (c .before .before .before .before .before .shard .ensures),
-      lt-ltb _ _ (c .before .before .before .before .if1 .left),
-      le-leb _ _ (c .before .before .before .if2 .left),
-      le-leb _ _ (c .before .before .if3 .left),
+      c .before .before .before .before .before .pre,
+      sym (c .before .before .before .before .shard .ensures),
+      lt-ltb _ _ (c .before .before .before .if1 .left),
+      le-leb _ _ (c .before .before .if2 .left),
+      le-leb _ _ (c .before .if3 .left),
     )
 
 pub in-range-spec : {M : Type 1} → statement M
@@ -47,6 +44,5 @@ in-range-spec =
     returns
     returns-2
     returns-3
-    of-requires
     are-numbers-requires
     returns-4)

@@ -26,7 +26,7 @@ unfolding argumentRejection firstOf
 returns-2 c = simp (sym (c .before .before .before .is-kept .ensures ∙ ap isKept (c .before .before .before .before .of .ensures)) ∙ c .before .before .if1 .left, sym (c .before .is-unknown .ensures ∙ ap isUnknown (c .before .before .before .before .of .ensures)) ∙ c .if2 .taken)
 
 in-range-requires : tie.Need-in-range-requires
-in-range-requires c κs = search needs
+in-range-requires c κs = sym (c .before .before .before .before .of .ensures)
 
 returns-3 : tie.Need-returns-3
 unfolding argumentRejection firstOf

@@ -1,10 +1,11 @@
 -- `machine::words::has_entry` meets its contract.
-use Prim.Native.Nat.{_≤_, _-_}
+use Prim.Native.Nat.{_+_, _≤_, _-_}
+use native.Mathlib.Omega.{arith}
 use mathlib.Core.Path.{_≡_, refl, sym, _∙_}
 use lib.ListN.{length, drop}
 use borrow.Author.Needs.{needs}
 use Rattle.model.specs.Tests.{contains}
-use Rattle.machine.proofs.Contains.{entry-here, entry-next, entry-none}
+use Rattle.machine.proofs.Contains.{entry-here, entry-not}
 use Rattle.machine.proofs.words.has_entry.Statement.{statement}
 use Rattle.machine.proofs.words.has_entry.Tie as tie
 
@@ -17,6 +18,9 @@ abbrev μ-loop : tie.MeasureT-loop
 loop-holds : tie.Need-loop-holds Inv-loop μ-loop
 loop-holds c = (search needs, refl)
 
+sub-loop : tie.Need-sub-loop Inv-loop μ-loop
+sub-loop c = search needs
+
 mul-if1 : tie.Need-mul-if1 Inv-loop μ-loop
 mul-if1 c = search needs
 
@@ -24,7 +28,63 @@ shared-slice-read-if1 : tie.Need-shared-slice-read-if1 Inv-loop μ-loop
 shared-slice-read-if1 c = search needs
 
 returns : tie.Need-returns Inv-loop μ-loop
-returns c = sym (entry-here (c .before .before .before .before .args .history .now) (c .before .before .before .loop .i) _ (search needs) (c .if1 .taken)) ∙ c .before .before .before .loop .inv .1
+returns c =
+    let o = c .before .before .before in
+    let l = o .before .before .args .history .now in
+    let i = o .loop .i in
+    let h : i + 4 ≤ length l = omega (arith, o .loop .inv .0, c .before .before .loop-test .taken) in
+    sym (entry-here l i _ (omega (arith, h)) (c .if1 .taken)) ∙ o .loop .inv .1
+
+add-if2 : tie.Need-add-if2 Inv-loop μ-loop
+add-if2 c = search needs
+
+mul-if2 : tie.Need-mul-if2 Inv-loop μ-loop
+mul-if2 c = search needs
+
+shared-slice-read-if2 : tie.Need-shared-slice-read-if2 Inv-loop μ-loop
+shared-slice-read-if2 c = search needs
+
+returns-2 : tie.Need-returns-2 Inv-loop μ-loop
+returns-2 c =
+    let o = c .before .before .before .before .before in
+    let l = o .before .before .args .history .now in
+    let i = o .loop .i in
+    let h : i + 4 ≤ length l = omega (arith, o .loop .inv .0, c .before .before .before .before .loop-test .taken) in
+    sym (entry-not l i (i + 1) _ (omega (arith, h)) (omega arith) (c .before .before .if1 .left) ∙ entry-here l (i + 1) _ (omega (arith, h)) (c .if2 .taken)) ∙ o .loop .inv .1
+
+add-if3 : tie.Need-add-if3 Inv-loop μ-loop
+add-if3 c = search needs
+
+mul-if3 : tie.Need-mul-if3 Inv-loop μ-loop
+mul-if3 c = search needs
+
+shared-slice-read-if3 : tie.Need-shared-slice-read-if3 Inv-loop μ-loop
+shared-slice-read-if3 c = search needs
+
+returns-3 : tie.Need-returns-3 Inv-loop μ-loop
+returns-3 c =
+    let o = c .before .before .before .before .before .before .before in
+    let l = o .before .before .args .history .now in
+    let i = o .loop .i in
+    let h : i + 4 ≤ length l = omega (arith, o .loop .inv .0, c .before .before .before .before .before .before .loop-test .taken) in
+    sym (entry-not l i (i + 1) _ (omega (arith, h)) (omega arith) (c .before .before .before .before .if1 .left) ∙ entry-not l (i + 1) (i + 2) _ (omega (arith, h)) (omega arith) (c .before .before .if2 .left) ∙ entry-here l (i + 2) _ (omega (arith, h)) (c .if3 .taken)) ∙ o .loop .inv .1
+
+add-if4 : tie.Need-add-if4 Inv-loop μ-loop
+add-if4 c = search needs
+
+mul-if4 : tie.Need-mul-if4 Inv-loop μ-loop
+mul-if4 c = search needs
+
+shared-slice-read-if4 : tie.Need-shared-slice-read-if4 Inv-loop μ-loop
+shared-slice-read-if4 c = search needs
+
+returns-4 : tie.Need-returns-4 Inv-loop μ-loop
+returns-4 c =
+    let o = c .before .before .before .before .before .before .before .before .before in
+    let l = o .before .before .args .history .now in
+    let i = o .loop .i in
+    let h : i + 4 ≤ length l = omega (arith, o .loop .inv .0, c .before .before .before .before .before .before .before .before .loop-test .taken) in
+    sym (entry-not l i (i + 1) _ (omega (arith, h)) (omega arith) (c .before .before .before .before .before .before .if1 .left) ∙ entry-not l (i + 1) (i + 2) _ (omega (arith, h)) (omega arith) (c .before .before .before .before .if2 .left) ∙ entry-not l (i + 2) (i + 3) _ (omega (arith, h)) (omega arith) (c .before .before .if3 .left) ∙ entry-here l (i + 3) _ (omega (arith, h)) (c .if4 .taken)) ∙ o .loop .inv .1
 
 add-i : tie.Need-add-i Inv-loop μ-loop
 add-i c = search needs
@@ -33,10 +93,18 @@ loop-less : tie.Need-loop-less Inv-loop μ-loop
 loop-less c = search needs
 
 loop-again : tie.Need-loop-again Inv-loop μ-loop
-loop-again c = (search needs, sym (entry-next (c .before .before .before .before .args .history .now) (c .before .before .before .loop .i) _ (search needs) (c .if1 .left)) ∙ c .before .before .before .loop .inv .1)
+loop-again c =
+    let o = c .before .before .before .before .before .before .before .before .before in
+    let l = o .before .before .args .history .now in
+    let i = o .loop .i in
+    let h : i + 4 ≤ length l = omega (arith, o .loop .inv .0, c .before .before .before .before .before .before .before .before .loop-test .taken) in
+    (search needs, sym (entry-not l i (i + 1) _ (omega (arith, h)) (omega arith) (c .before .before .before .before .before .before .if1 .left) ∙ entry-not l (i + 1) (i + 2) _ (omega (arith, h)) (omega arith) (c .before .before .before .before .if2 .left) ∙ entry-not l (i + 2) (i + 3) _ (omega (arith, h)) (omega arith) (c .before .before .if3 .left) ∙ entry-not l (i + 3) (i + 4) _ (omega (arith, h)) (omega arith) (c .if4 .left)) ∙ o .loop .inv .1)
 
-returns-2 : tie.Need-returns-2 Inv-loop μ-loop
-returns-2 c = sym (entry-none (c .before .before .args .history .now) (c .before .loop .i) (c .before .before .args .e) (search needs)) ∙ c .before .loop .inv .1
+has-entry-from-requires : tie.Need-has-entry-from-requires Inv-loop μ-loop
+has-entry-from-requires c κs = search needs
+
+returns-5 : tie.Need-returns-5 Inv-loop μ-loop
+returns-5 c = c .has-entry-from .ensures ∙ c .before .before .loop .inv .1
 
 pub has-entry-spec : {M : Type 1} → statement M
 has-entry-spec =
@@ -45,10 +113,24 @@ has-entry-spec =
     Inv-loop
     μ-loop
     loop-holds
+    sub-loop
     mul-if1
     shared-slice-read-if1
     returns
+    add-if2
+    mul-if2
+    shared-slice-read-if2
+    returns-2
+    add-if3
+    mul-if3
+    shared-slice-read-if3
+    returns-3
+    add-if4
+    mul-if4
+    shared-slice-read-if4
+    returns-4
     add-i
     loop-less
     loop-again
-    returns-2)
+    has-entry-from-requires
+    returns-5)

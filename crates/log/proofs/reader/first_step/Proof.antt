@@ -1,0 +1,23 @@
+-- `first_step` meets its contract: either way reads the first step. Assumes nothing.
+use borrow.Author.Needs.{needs}
+use Rattle.log.proofs.reader.first_step.Statement.{statement}
+use Rattle.log.proofs.reader.first_step.Tie as tie
+
+is-short-requires : tie.Need-is-short-requires
+is-short-requires c κs = search needs
+
+short-step-requires : tie.Need-short-step-requires
+short-step-requires c κs = c .before .is-short .ensures (c .if2 .taken)
+
+returns : tie.Need-returns
+returns c = search needs
+
+any-step-requires : tie.Need-any-step-requires
+any-step-requires c κs = search needs
+
+returns-2 : tie.Need-returns-2
+returns-2 c = search needs
+
+pub first-step-spec : {M : Type 1} → statement M
+first-step-spec =
+    tie.close (tie.spec is-short-requires short-step-requires returns any-step-requires returns-2)
