@@ -3,7 +3,7 @@ use Prim.Native.Nat.{ℕ, _≤_, _<_}
 use native.Mathlib.Omega.{arith}
 use mathlib.Core.Path.{_≡_, refl}
 use mathlib.Core.Bool.{Bool, true, false, cond, not, _&&_, _||_}
-use mathlib.Core.List.{List, [], _∷_}
+use mathlib.Core.List.{List, [], _∷_, _++_}
 use lib.Dec.{leb, ltb, eqb}
 use lib.ListN.{length}
 use borrow.Author.Tests.{leb-true, ltb-true, eq-eqb}
@@ -44,6 +44,22 @@ passed (c ∷ cs) n e =
     let t = both (leb 1 (c .number)) (areNumbered cs) .0 n in
     let f = first (c .passes) (firstOf cs) (c .number) (leb-true 1 (c .number) (t .0)) e in
     (f .0, passed cs (t .1) (f .1))
+
+-- checks before others: the first that fails among them, or else among the others
+pub first-before : (cs ds : List Check) → (firstOf cs ≡ 0 → ⊥) → firstOf (cs ++ ds) ≡ firstOf cs
+unfolding firstOf
+first-before [] ds n = absurd (n refl)
+first-before (c ∷ cs) ds n = go (c .passes) (first-before cs ds) n
+  where
+    go : (b : Bool) → ((firstOf cs ≡ 0 → ⊥) → firstOf (cs ++ ds) ≡ firstOf cs) → (cond b (firstOf cs) (c .number) ≡ 0 → ⊥)
+        → cond b (firstOf (cs ++ ds)) (c .number) ≡ cond b (firstOf cs) (c .number)
+    go true rest n = rest n
+    go false rest n = refl
+
+pub first-after : (cs ds : List Check) → AllPass cs → firstOf (cs ++ ds) ≡ firstOf ds
+unfolding firstOf
+first-after [] ds p = refl
+first-after (c ∷ cs) ds p = rw (p .0) (first-after cs ds (p .1))
 
 -- every check with the number n passes, so n is no rejection: `refl` proves it of a list that is written out and has no such check
 abbrev pub passAt : ℕ → List Check → Bool

@@ -49,11 +49,17 @@ pub mod Trace
 pub mod ReferenceShard
 pub mod Moments
 pub mod OneList
+pub mod StableGrowth
+pub mod Appointed
 -- The log
 pub mod Numbers
 pub mod Several
 pub mod RoundTrip
+pub mod LogRoundTrip
 pub mod Results
+-- Longer logs
+pub mod ReadOn
+pub mod LongerLogs
 -- The marked cases
 pub mod Answers
 pub mod Marked

@@ -167,10 +167,10 @@ pub record Whole (bs : List ℕ) (s : Step) (n : ℕ) : Type 0 where
   pub writable : Writable s
   pub bytes : allOf isByte bs ≡ true → take n bs ≡ stepBytes s
 
--- the same of any result: the end and a rejection tell nothing
+-- the same of any result: the end tells that there are no bytes, a rejection tells nothing
 abbrev GivenStep : List ℕ → Reading → Type 0
 GivenStep bs (Read s n) = Whole bs s n
-GivenStep bs End = Unit {0}
+GivenStep bs End = bs ≡ []
 GivenStep bs (Rejected r) = Unit {0}
 
 module _ (bs : List ℕ) (k n : ℕ) (first : readNumber bs ≡ Value k n) (e : isKept (kindOf k) ≡ false) (f : isUnknown (kindOf k) ≡ false) where
@@ -218,11 +218,14 @@ after-kind bs (NotNumber r) first = tt
 
 step-result : (bs : List ℕ) → GivenStep bs (readStep bs)
 unfolding readStep
-step-result [] = tt
+step-result [] = refl
 step-result (b ∷ bs) = after-kind (b ∷ bs) (readNumber (b ∷ bs)) refl
 
 pub step-given : (bs : List ℕ) {s : Step} {n : ℕ} → readStep bs ≡ Read s n → Whole bs s n
 step-given bs e = rw e at (step-result bs)
+
+pub none-left : (bs : List ℕ) → readStep bs ≡ End → bs ≡ []
+none-left bs e = rw e at (step-result bs)
 
 module _ (bs : List ℕ) {s : Step} {n : ℕ} (e : readStep bs ≡ Read s n) where
   pub step-least : 1 ≤ n

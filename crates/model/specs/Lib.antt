@@ -26,7 +26,11 @@ pub mod Prefixes
 pub mod Runs
 pub mod Reference
 pub mod OneList
+pub mod StableGrowth
+pub mod LongerLogs
+pub mod Appointed
 pub mod RoundTrip
+pub mod LogRoundTrip
 pub mod StaysWellFormed
 pub mod Marked
 pub mod Results

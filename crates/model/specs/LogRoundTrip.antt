@@ -1,0 +1,41 @@
+-- A whole log's round trip as one claim (document 01: "A log is steps end to end"; "Log bytes read to the steps they encode, and steps write to those
+-- bytes."). It is proved in `proofs/LogRoundTrip.antt` (`log-round-trip`).
+use Prim.Native.Nat.{ℕ, _≤_}
+use mathlib.Core.Path.{_≡_}
+use mathlib.Core.Bool.{true}
+use mathlib.Core.List.{List, [], _∷_, _++_}
+use lib.Dec.{ltb}
+use lib.ListN.{length}
+use Rattle.model.specs.declared.Stop.the-variants.{Ended}
+use Rattle.model.specs.declared.step.Step.{Step}
+use Rattle.model.specs.Log.{Log, readLog}
+use Rattle.model.specs.Tests.{allOf}
+use Rattle.model.specs.Writer.{stepBytes}
+use Rattle.model.specs.RoundTrip.{Writable}
+
+-- the bytes of several steps, "end to end"
+unfoldable pub logBytes : List Step → List ℕ
+logBytes [] = []
+logBytes (s ∷ ss) = stepBytes s ++ logBytes ss
+
+-- several steps that the writer accepts where the output has room
+pub data AllWritable : List Step → Type 0 where
+  none : AllWritable []
+  next : {s : Step} {ss : List Step} → Writable s → AllWritable ss → AllWritable (s ∷ ss)
+
+-- just these steps, all of their bytes, and the end
+unfoldable pub wholeLog : List Step → Log
+wholeLog ss = record { steps = ss; stop = Ended; bytes = length (logBytes ss) }
+
+-- the bytes are those of the steps ss, each of which the writer accepts
+pub record EncodedLog (bs : List ℕ) (ss : List Step) : Type 0 where
+  pub writable : AllWritable ss
+  pub bytes : bs ≡ logBytes ss
+
+pub record LogRoundTrip : Type 0 where
+  -- the bytes of any steps that the writer accepts read to just these steps and the end, with any budget that is enough for them
+  pub writtenIsRead : (ss : List Step) (budget : ℕ) → AllWritable ss → length ss ≤ budget → readLog budget (logBytes ss) ≡ wholeLog ss
+  -- bytes that read to their end are the bytes of the steps read, and no others
+  pub readIsWritten :
+      (budget : ℕ) (bs : List ℕ) → allOf (λ b. ltb b 256) bs ≡ true → readLog budget bs .stop ≡ Ended
+      → EncodedLog bs (readLog budget bs .steps)
