@@ -3,5 +3,5 @@ pub mod State
 pub mod Replays
 pub mod Counts
 pub mod Steps
-pub mod Histories
+pub mod Lists
 pub mod Transcripts

@@ -1,6 +1,6 @@
 // The machine for C, as `include/penkwadar.h` declares it: functions over borrowed buffers that ask nothing of their words.
 
-mod histories;
+mod lists;
 mod replays;
 mod state;
 mod steps;

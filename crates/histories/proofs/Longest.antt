@@ -1,17 +1,18 @@
 -- A shard's stable history is that of the replica which the pick finds: words of the state.
-use Prim.Native.Nat.{ℕ, zero, suc, _+_, _≤_, _<_}
+use Prim.Native.Nat.{ℕ, zero, suc, _+_, _<_}
 use native.Mathlib.Omega.{arith}
 use mathlib.Core.Path.{_≡_, refl, ap, _∙_}
 use mathlib.Core.Bool.{Bool, true, false, cond}
 use mathlib.Core.List.{List, [], _∷_}
 use lib.Dec.{ltb}
-use lib.ListN.{length, getD, take, drop}
+use lib.ListN.{length, getD}
 use borrow.Author.Tests.{lt-ltb}
 use Rattle.model.specs.Replicas.{stablePrefix}
 use Rattle.model.specs.Layout.{place, replicaAt}
 use Rattle.model.specs.StableHistory.{longer, longestOf, stableHistory}
-use Rattle.transcript.specs.Listing.{longestPlace, OfShard}
-use Rattle.transcript.proofs.Stable.{Settled, shard-settled}
+use Rattle.histories.specs.Entries.{entriesAt, HasEntries}
+use Rattle.histories.specs.History.{longestPlace, OfShard}
+use Rattle.histories.proofs.Stable.{Settled, shard-settled}
 
 longer-none : (p : List ℕ) → longer [] p ≡ p
 unfolding longer
@@ -46,10 +47,8 @@ module _ {w : List ℕ} {z : ℕ} (s : OfShard w z) where
 
 -- the place that the pick finds, and the stable history there
 pub record Longest (w : List ℕ) (z : ℕ) : Type 0 where
-  pub fits : longestPlace w z 31 + 64 ≤ length w
-  pub few : getD w (longestPlace w z 31 + 2) 0 ≤ 56
-  pub picked : stableHistory w z ≡ stablePrefix (replicaAt w (longestPlace w z 31))
-  pub entries : stableHistory w z ≡ take (getD w (longestPlace w z 31 + 2) 0) (drop (longestPlace w z 31 + 8) w)
+  pub has : HasEntries w (longestPlace w z 31)
+  pub entries : stableHistory w z ≡ entriesAt w (longestPlace w z 31)
   pub count : length (stableHistory w z) ≡ getD w (longestPlace w z 31 + 2) 0
 
 pub longest : {w : List ℕ} {z : ℕ} → OfShard w z → Longest w z
@@ -57,10 +56,4 @@ unfolding stableHistory
 longest {w} {z} s =
     let t = pick-settled s 31 (omega arith) in
     let p = pick-prefix s 31 (omega arith) in
-    record {
-      fits = t .fits;
-      few = omega (arith, t .stable-most, t .few);
-      picked = p;
-      entries = p ∙ t .entries;
-      count = ap length p ∙ t .count;
-    }
+    record { has = t .has; entries = p ∙ t .entries; count = ap length p ∙ t .count }

@@ -6,7 +6,7 @@ use mathlib.Core.List.{List}
 use lib.ListN.{getD}
 use borrow.Author.Tests.{lt-ltb, le-ltb}
 use Rattle.model.specs.Layout.{place}
-use Rattle.transcript.specs.Listing.{longestPlace}
+use Rattle.histories.specs.History.{longestPlace}
 
 -- the n replicas looked at are one and `last` more
 pub record Picking (w : List ℕ) (z best most n : ℕ) : Type 0 where

@@ -1,36 +1,24 @@
--- A shard's stable history, copied to an output: what the function answers and leaves.
-use Prim.Native.Nat.{ℕ, zero, suc, _+_, _<_}
+-- A list of entries that is copied to an output: what the copying functions answer and leave.
+use Prim.Native.Nat.{ℕ}
 use mathlib.Core.Bool.{cond}
-use mathlib.Core.List.{List, [], _∷_, _++_}
-use lib.Dec.{leb, ltb, eqb}
-use lib.ListN.{length, getD, drop}
-use Rattle.model.specs.Checks.{firstOf, _orElse_}
-use Rattle.model.specs.Layout.{shardsOf, isStateLength, place}
-use Rattle.model.specs.WellFormed.{wellFormed}
-use Rattle.model.specs.StableHistory.{stableHistory}
-use Rattle.machine.specs.Inside.{Formed}
-use Rattle.transcript.specs.declared.history.Listing.{Listing}
-use Rattle.transcript.specs.declared.history.Listing.the-variants.{Entries, Rejected}
+use mathlib.Core.List.{List, _++_}
+use lib.Dec.{leb, eqb}
+use lib.ListN.{length, drop}
+use Rattle.model.specs.Checks.{Check, _orElse_}
+use Rattle.histories.specs.declared.Listing.{Listing}
+use Rattle.histories.specs.declared.Listing.the-variants.{Entries, Rejected}
 
--- in the order of a step's checks, and the output's last: 1, 7, 9, 8
-unfoldable pub listingRejection : List ℕ → ℕ → List ℕ → ℕ
-listingRejection w z out =
-    firstOf
-    (isStateLength (length w) orElse 1
-    ∷ ltb z (shardsOf (length w)) orElse 7
-    ∷ wellFormed w orElse 9
-    ∷ leb (length (stableHistory w z)) (length out) orElse 8
-    ∷ [])
+-- the last check, rejection 8: the output has room for the list
+unfoldable pub hasRoom : List ℕ → List ℕ → Check
+hasRoom l out = leb (length l) (length out) orElse 8
 
--- how many entries the stable history has, or the rejection
-unfoldable pub listing : List ℕ → ℕ → List ℕ → Listing
-listing w z out =
-    cond (eqb (listingRejection w z out) 0) (Entries (length (stableHistory w z))) (Rejected (listingRejection w z out))
+-- how many entries the list has, or the rejection
+unfoldable pub listingOf : ℕ → List ℕ → Listing
+listingOf rejection l = cond (eqb rejection 0) (Entries (length l)) (Rejected rejection)
 
--- the entries, and what lies past them; a rejection leaves the output untouched
-unfoldable pub afterListing : List ℕ → ℕ → List ℕ → List ℕ
-afterListing w z out =
-    cond (eqb (listingRejection w z out) 0) (stableHistory w z ++ drop (length (stableHistory w z)) out) out
+-- the entries, and what lies past them: "Any lent output keeps what lies past the part written"; a rejection leaves the output untouched
+unfoldable pub afterListingOf : ℕ → List ℕ → List ℕ → List ℕ
+afterListingOf rejection l out = cond (eqb rejection 0) (l ++ drop (length l) out) out
 
 -- document 01's number and value for each case of the answer
 unfoldable pub listingNumber : Listing → ℕ
@@ -40,14 +28,3 @@ listingNumber (Rejected r) = r
 unfoldable pub listingCount : Listing → ℕ
 listingCount (Entries n) = n
 listingCount (Rejected r) = 0
-
--- the place of the replica with the longest stable prefix among the first n + 1 of shard z: the first of equally long ones
-unfoldable pub longestPlace : List ℕ → ℕ → ℕ → ℕ
-longestPlace w z zero = place z 0 0
-longestPlace w z (suc n) =
-    cond (ltb (getD w (longestPlace w z n + 2) 0) (getD w (place z 0 (suc n) + 2) 0)) (place z 0 (suc n)) (longestPlace w z n)
-
--- a shard of a well-formed state
-pub record OfShard (w : List ℕ) (z : ℕ) : Type 0 where
-  pub formed : Formed w
-  pub shard : z < shardsOf (length w)

@@ -1,6 +1,6 @@
 // The pick of a shard's longest stable history.
 ghost use mathlib.Core.Path.{_≡_};
-ghost use Rattle.transcript.specs.Listing.{longestPlace, OfShard};
+ghost use Rattle.histories.specs.History.{longestPlace, OfShard};
 
 // The place of the replica with the longest stable prefix; of equally long ones, the lowest index, then the lowest replica.
 pub fn longest(state: &[u64], shard: u64) -> usize

@@ -17,7 +17,7 @@ use Rattle.model.proofs.Places.{replica-place}
 use Rattle.model.proofs.SeatedReplica.{number-small}
 use Rattle.model.proofs.WellFormed.{WellFormed, well-formed}
 use Rattle.model.proofs.WellFormedParts.{part-is-words}
-use Rattle.machine.specs.Inside.{Formed, Ready}
+use Rattle.lookup.specs.Ready.{Formed, Ready}
 
 -- a word of a part is a word of the state
 pub part-word : (w : List ℕ) (at i : ℕ) → i < 64 → getD (part w at) i 0 ≡ getD w (at + i) 0

@@ -12,10 +12,10 @@ use Rattle.model.specs.Replicas.{replicaWords}
 use Rattle.model.specs.Configuration.{configuration, replicaPlace, replicaOf}
 use Rattle.model.proofs.Places.{replica-place, place-fits}
 use Rattle.model.proofs.SeatedReplica.{number-small}
-use Rattle.machine.specs.Inside.{Ready, Placed}
-use Rattle.machine.specs.declared.look.Seat.{Seat}
-use Rattle.machine.specs.Seats.{seatOf}
-use Rattle.machine.proofs.Fields.{formed, member-words}
+use Rattle.lookup.specs.Ready.{Ready, Placed}
+use Rattle.lookup.specs.declared.Seat.{Seat}
+use Rattle.lookup.specs.Seats.{seatOf}
+use Rattle.lookup.proofs.Fields.{formed, member-words}
 
 -- a replica that was found: its configuration is installed, its host a member, and it is at the place
 pub record Found (w : List ℕ) (z j h : ℕ) : Type 0 where

@@ -5,7 +5,7 @@ use mathlib.Core.List.{List}
 use Rattle.model.specs.Members.{hasMember}
 use Rattle.model.specs.Layout.{isInstalled, members}
 use Rattle.model.specs.Configuration.{configuration, replicaPlace}
-use Rattle.machine.specs.declared.look.Seat.{Seat}
+use Rattle.lookup.specs.declared.Seat.{Seat}
 
 unfoldable pub seatOf : List ℕ → ℕ → ℕ → ℕ → Seat
 seatOf w z j h =

@@ -1,12 +1,11 @@
-// Looking into a well-formed state: configurations by value, and where a host's replica is.
+// Looking into a well-formed state: configurations by value, and where a host's replica is. No entry point: callers have tested the state.
 use model::configuration::Configuration;
 ghost use mathlib.Core.Path.{_≡_};
-ghost use Prim.Native.Nat.{_+_, _≤_};
-ghost use lib.ListN.{length};
+ghost use Prim.Native.Nat.{_+_};
 ghost use Rattle.model.specs.Layout.{isInstalled};
 ghost use Rattle.model.specs.Configuration.{configuration};
-ghost use Rattle.machine.specs.Inside.{Ready, ReadyHost, Placed};
-ghost use Rattle.machine.specs.Seats.{seatOf};
+ghost use Rattle.lookup.specs.Ready.{Ready, ReadyHost, Placed};
+ghost use Rattle.lookup.specs.Seats.{seatOf};
 
 // Whether configuration j of shard z is installed.
 pub fn is_installed(state: &[u64], z: usize, j: usize) -> bool

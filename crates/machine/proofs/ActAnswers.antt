@@ -13,7 +13,8 @@ use Rattle.model.specs.Checks.{firstOf}
 use Rattle.model.specs.Kinds.{kindOf, isKept, isUnknown}
 use Rattle.model.specs.Layout.{shardsOf}
 use Rattle.model.specs.Steps.{shardOf, configurationOf, inRange, kindChecks, kindEffect, rejection, effect, after}
-use Rattle.machine.specs.Inside.{Formed, ReadyKind, argumentRejection}
+use Rattle.lookup.specs.Ready.{Formed}
+use Rattle.machine.specs.Inside.{ReadyKind, argumentRejection}
 use Rattle.machine.proofs.Entry.{answer, rejects-early, rejected, answered, accepted, has-shards}
 
 -- a step of a kind that is neither kept nor unknown

@@ -17,7 +17,8 @@ use Rattle.model.specs.Entries.{isEntry}
 use Rattle.model.specs.Layout.{shardsOf}
 use Rattle.model.specs.Steps.{shardOf, configurationOf, areNumbers, inRange}
 use Rattle.model.proofs.Tests.{both, all-pass}
-use Rattle.machine.specs.Inside.{Formed, Ready, ReadyHost, ReadyKind}
+use Rattle.lookup.specs.Ready.{Formed, Ready, ReadyHost}
+use Rattle.machine.specs.Inside.{ReadyKind}
 use Rattle.machine.specs.InsideInherit.{ReadySource}
 use Rattle.machine.specs.Installs.{ReadyPlace}
 use Rattle.machine.specs.Orderers.{ReadyEntry}

@@ -11,7 +11,7 @@ use Rattle.model.specs.Replicas.{Replica, added}
 use Rattle.model.specs.Layout.{putReplica}
 use Rattle.model.specs.Add.{ordererReplica, addChecks, addEffect}
 use Rattle.model.proofs.Checks.{passed}
-use Rattle.machine.specs.Inside.{Ready}
+use Rattle.lookup.specs.Ready.{Ready}
 use Rattle.machine.specs.Orderers.{ReadyInstalled, OrdererAt}
 use Rattle.machine.proofs.AddStores.{store-added}
 use Rattle.machine.proofs.Orderers.{orderer-found}

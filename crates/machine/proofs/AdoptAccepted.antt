@@ -6,9 +6,9 @@ use mathlib.Core.List.{List, _∷_}
 use Rattle.model.specs.Checks.{Check, firstOf, _orElse_}
 use Rattle.model.specs.Members.{hasMember}
 use Rattle.model.specs.Layout.{isInstalled, members}
-use Rattle.machine.specs.declared.look.Seat.{Seat}
-use Rattle.machine.specs.Seats.{seatOf}
-use Rattle.machine.proofs.Seats.{At, at-found, passed-found}
+use Rattle.lookup.specs.declared.Seat.{Seat}
+use Rattle.lookup.specs.Seats.{seatOf}
+use Rattle.lookup.proofs.Seats.{At, at-found, passed-found}
 
 pub accepted-at : (w : List ℕ) (z j h : ℕ) (r : Seat) → r ≡ seatOf w z j h → (rest : List Check)
     → firstOf (isInstalled w z j orElse 10 ∷ hasMember (members w z j) h orElse 11 ∷ rest) ≡ 0 → At w z j h (r .place)

@@ -13,8 +13,8 @@ use Rattle.model.specs.Layout.{orderer}
 use Rattle.model.specs.Configuration.{configuration}
 use Rattle.model.specs.Add.{ordererPlace}
 use Rattle.model.specs.Adopt.{adoptChecks}
-use Rattle.machine.proofs.Fields.{active-word, pending-word}
-use Rattle.machine.proofs.Seats.{At}
+use Rattle.lookup.proofs.Fields.{active-word, pending-word}
+use Rattle.lookup.proofs.Seats.{At}
 use Rattle.machine.proofs.AdoptOrderer.{orderer-replica}
 
 -- host h's replica is at p, and the configuration is k

@@ -8,9 +8,9 @@ use Rattle.model.specs.Layout.{isInstalled, orderer, replicaAt}
 use Rattle.model.specs.Configuration.{configuration, replicaOf}
 use Rattle.model.specs.Add.{ordererPlace, ordererReplica}
 use Rattle.model.proofs.WellFormedMembers.{head-installed, orderer-is-member}
-use Rattle.machine.specs.Inside.{Ready, Placed}
-use Rattle.machine.proofs.Fields.{formed}
-use Rattle.machine.proofs.Seats.{At, member-placed}
+use Rattle.lookup.specs.Ready.{Ready, Placed}
+use Rattle.lookup.proofs.Fields.{formed}
+use Rattle.lookup.proofs.Seats.{At, member-placed}
 
 module _ {w : List ℕ} {z j : ℕ} (r : Ready w z j) (i : isInstalled w z j ≡ true) where
   pub orderer-host : configuration w z j .orderer < 16

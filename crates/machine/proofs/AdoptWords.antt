@@ -10,7 +10,7 @@ use lib.ListN.{length, getD, take, drop, set, length-take, length-drop}
 use lib.Seq.{drop-drop}
 use Rattle.model.specs.Replicas.{Replica, replicaWords, adopted, inherited}
 use Rattle.model.specs.Layout.{part, replicaAt, putReplica}
-use Rattle.machine.proofs.Fields.{mode-word, stable-word}
+use Rattle.lookup.proofs.Fields.{mode-word, stable-word}
 
 -- what is lent from a place on is the part there
 lent-part : (w : List ℕ) (at : ℕ) → take (at + 64 - at) (drop at w) ≡ part w at

@@ -1,13 +1,13 @@
 -- The entry points' ladders: what setup and step answer and leave, by the tests that they make in turn.
 -- Assumes nothing.
-use Prim.Native.Nat.{ℕ, _*_, _/_, _≤_}
+use Prim.Native.Nat.{ℕ}
 use native.Mathlib.Omega.{arith}
 use mathlib.Core.Path.{_≡_, refl, sym, ap, _∙_}
-use mathlib.Core.Bool.{Bool, true, false, cond, not, _&&_}
-use mathlib.Core.List.{List, [], _∷_}
-use lib.Dec.{leb, eqb}
+use mathlib.Core.Bool.{Bool, true, false, cond, not}
+use mathlib.Core.List.{List}
+use lib.Dec.{eqb}
 use lib.ListN.{length}
-use borrow.Author.Tests.{leb-true, le-leb, lt-leb, eq-eqb, ne-eqb}
+use borrow.Author.Tests.{le-leb, lt-leb, eq-eqb, ne-eqb}
 use Rattle.model.specs.declared.step.Step.{Step}
 use Rattle.model.specs.Checks.{firstOf}
 use Rattle.model.specs.Kinds.{kindOf, isKept, isUnknown}
@@ -15,38 +15,10 @@ use Rattle.model.specs.Layout.{shardsOf, isStateLength}
 use Rattle.model.specs.WellFormed.{wellFormed}
 use Rattle.model.specs.Setup.{isPlan, setupRejection, afterSetup, initialState}
 use Rattle.model.specs.Steps.{shardOf, configurationOf, inRange, kindChecks, stepChecks, rejection, effect, after}
-use Rattle.model.proofs.Tests.{all-pass}
-use Rattle.model.proofs.Places.{length-of-shards}
 use Rattle.model.proofs.WellFormedSteps.{after-accepted, after-rejected}
-use Rattle.machine.specs.Inside.{Formed, argumentRejection}
-
--- a length has no shards, or is that of a state
-pub several : (n : ℕ) → (shardsOf n ≡ 0 → ⊥) → 2 ≤ shardsOf n
-unfolding shardsOf
-several n = go (eqb (n / 2112 * 2112) n && leb 2 (n / 2112) && leb (n / 2112) 8) refl
-  where
-    go : (t : Bool) → (eqb (n / 2112 * 2112) n && leb 2 (n / 2112) && leb (n / 2112) 8) ≡ t
-        → (cond (eqb (n / 2112 * 2112) n && leb 2 (n / 2112) && leb (n / 2112) 8) (n / 2112) 0 ≡ 0 → ⊥)
-        → 2 ≤ cond (eqb (n / 2112 * 2112) n && leb 2 (n / 2112) && leb (n / 2112) 8) (n / 2112) 0
-    go true e q =
-        rw e (leb-true 2 (n / 2112) (all-pass (eqb (n / 2112 * 2112) n) (leb 2 (n / 2112) ∷ leb (n / 2112) 8 ∷ []) e .1 .0))
-    go false e q = absurd (q (rw e))
-
-pub shards-most : (n : ℕ) → shardsOf n ≤ 8
-unfolding shardsOf
-shards-most n = go (eqb (n / 2112 * 2112) n && leb 2 (n / 2112) && leb (n / 2112) 8) refl
-  where
-    go : (t : Bool) → (eqb (n / 2112 * 2112) n && leb 2 (n / 2112) && leb (n / 2112) 8) ≡ t
-        → cond (eqb (n / 2112 * 2112) n && leb 2 (n / 2112) && leb (n / 2112) 8) (n / 2112) 0 ≤ 8
-    go true e =
-        rw e (leb-true (n / 2112) 8 (all-pass (eqb (n / 2112 * 2112) n) (leb 2 (n / 2112) ∷ leb (n / 2112) 8 ∷ []) e .1 .1 .0))
-    go false e = rw e (omega arith)
-
-pub formed-of : (w : List ℕ) → (shardsOf (length w) ≡ 0 → ⊥) → wellFormed w ≡ true → Formed w
-formed-of w n f =
-    let s = several (length w) n in
-    let l = length-of-shards w (shardsOf (length w)) refl s in
-    record { formed = f; several = s; most = l .1; long = l .0 }
+use Rattle.lookup.specs.Ready.{Formed}
+use Rattle.lookup.proofs.Formed.{several}
+use Rattle.machine.specs.Inside.{argumentRejection}
 
 -- ---- step
 

@@ -8,11 +8,11 @@ use lib.ListN.{getD}
 use borrow.Author.Tests.{eq-eqb, ne-eqb}
 use Rattle.model.specs.Checks.{firstOf}
 use Rattle.model.specs.Inherit.{isSource, inheritChecks}
-use Rattle.machine.specs.Inside.{Ready}
-use Rattle.machine.specs.declared.look.Seat.{Seat}
-use Rattle.machine.specs.Seats.{seatOf}
-use Rattle.machine.proofs.Fields.{pending-word}
-use Rattle.machine.proofs.Seats.{At, at-found}
+use Rattle.lookup.specs.Ready.{Ready}
+use Rattle.lookup.specs.declared.Seat.{Seat}
+use Rattle.lookup.specs.Seats.{seatOf}
+use Rattle.lookup.proofs.Fields.{pending-word}
+use Rattle.lookup.proofs.Seats.{At, at-found}
 use Rattle.machine.proofs.InheritSource.{pending-later, no-source, source-word}
 
 -- host h's replica is at p

@@ -15,11 +15,11 @@ use Rattle.model.specs.Configuration.{configuration, replicaOf}
 use Rattle.model.specs.Inherit.{isSource, source}
 use Rattle.model.proofs.Tests.{both}
 use Rattle.model.proofs.WellFormedMembers.{member-proper}
-use Rattle.machine.specs.Inside.{Ready}
-use Rattle.machine.specs.declared.look.Seat.{Seat}
-use Rattle.machine.specs.Seats.{seatOf}
-use Rattle.machine.proofs.Fields.{formed, immutable-word}
-use Rattle.machine.proofs.Seats.{At, at-found}
+use Rattle.lookup.specs.Ready.{Ready}
+use Rattle.lookup.specs.declared.Seat.{Seat}
+use Rattle.lookup.specs.Seats.{seatOf}
+use Rattle.lookup.proofs.Fields.{formed, immutable-word}
+use Rattle.lookup.proofs.Seats.{At, at-found}
 
 -- a pending replica is of no first configuration
 pub pending-later : {w : List ℕ} {z j h p : ℕ} → Ready w z j → At w z j h p → isPending (replicaOf w (configuration w z j) h) ≡ true → 1 ≤ j

@@ -10,11 +10,11 @@ use Rattle.model.specs.Checks.{firstOf}
 use Rattle.model.specs.Entries.{isIssueFor, issueIndex}
 use Rattle.model.specs.Layout.{sequencer}
 use Rattle.model.specs.Install.{noneBefore, isStableIssue, installChecks}
-use Rattle.machine.specs.declared.look.Seat.{Seat}
-use Rattle.machine.specs.Inside.{Placed}
-use Rattle.machine.specs.Seats.{seatOf}
+use Rattle.lookup.specs.declared.Seat.{Seat}
+use Rattle.lookup.specs.Ready.{Placed}
+use Rattle.lookup.specs.Seats.{seatOf}
 use Rattle.machine.specs.Installs.{ReadyPlace}
-use Rattle.machine.proofs.Seats.{At, at-found}
+use Rattle.lookup.proofs.Seats.{At, at-found}
 use Rattle.machine.proofs.InstallReads.{installed-word, stable-is, issued-is, none-is}
 
 module _ {w : List ℕ} {z j h q : ℕ} (r : ReadyPlace w z j h q) {s : Seat} (g : s ≡ seatOf w (sequencer w z) j h) (y : s .answer ≡ 0) where

@@ -14,11 +14,11 @@ use Rattle.model.specs.Install.{issuer, issuedAt, isStableIssue, installChecks,
 use Rattle.model.proofs.Tests.{both}
 use Rattle.model.proofs.Checks.{AllPass, passed}
 use Rattle.model.proofs.WellFormedInstall.{issue-proper, next-index}
-use Rattle.machine.specs.declared.look.Seat.{Seat}
-use Rattle.machine.specs.Seats.{seatOf}
+use Rattle.lookup.specs.declared.Seat.{Seat}
+use Rattle.lookup.specs.Seats.{seatOf}
 use Rattle.machine.specs.Installs.{ReadyPlace, ReadyNext}
-use Rattle.machine.proofs.Fields.{formed}
-use Rattle.machine.proofs.Seats.{At, at-found, passed-found}
+use Rattle.lookup.proofs.Fields.{formed}
+use Rattle.lookup.proofs.Seats.{At, at-found, passed-found}
 use Rattle.machine.proofs.InstallReads.{installed-word, stable-is, issued-is}
 
 module _ {w : List ℕ} {z j h q : ℕ} (r : ReadyPlace w z j h q) {s : Seat} (e : s ≡ seatOf w (sequencer w z) j h)

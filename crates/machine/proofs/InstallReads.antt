@@ -13,9 +13,9 @@ use Rattle.model.specs.Configuration.{configuration}
 use Rattle.model.specs.Install.{issuer, issuedAt, noneBefore}
 use Rattle.model.proofs.WellFormedMembers.{member-proper}
 use Rattle.model.proofs.WellFormedInstall.{sequencer-below}
-use Rattle.machine.specs.Inside.{Ready, ReadyHost}
-use Rattle.machine.proofs.Fields.{formed, stable-word}
-use Rattle.machine.proofs.Seats.{At, words-at}
+use Rattle.lookup.specs.Ready.{Ready, ReadyHost}
+use Rattle.lookup.proofs.Fields.{formed, stable-word}
+use Rattle.lookup.proofs.Seats.{At, words-at}
 use Rattle.machine.proofs.AddWords.{length-word, history-words}
 use Rattle.machine.proofs.NoneNames.{none-same}
 

@@ -15,7 +15,7 @@ use Rattle.model.proofs.WellFormedParts.{Vacant, part-is-words, part-vacant}
 use Rattle.model.proofs.WellFormedMembers.{configured}
 use Rattle.model.proofs.WellFormedInstall.{old-vacant}
 use Rattle.machine.specs.Installs.{ReadyNext, ReadyUnused}
-use Rattle.machine.proofs.Fields.{formed}
+use Rattle.lookup.proofs.Fields.{formed}
 use Rattle.machine.proofs.InstallReads.{installed-word}
 
 -- the state with the three head words of configuration n

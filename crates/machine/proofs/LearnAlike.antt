@@ -16,9 +16,9 @@ use Rattle.model.specs.Configuration.{configuration}
 use Rattle.model.specs.Learn.{alike, allAlike}
 use Rattle.model.proofs.WellFormedParts.{part-is-words}
 use Rattle.model.proofs.WellFormedMembers.{size-few}
-use Rattle.machine.specs.Inside.{Ready, Placed}
+use Rattle.lookup.specs.Ready.{Ready, Placed}
 use Rattle.machine.specs.AlikeWords.{Compared, alikeEntry, alikeAt, allAlikeAt}
-use Rattle.machine.proofs.Fields.{part-word, formed}
+use Rattle.lookup.proofs.Fields.{part-word, formed}
 use Rattle.machine.proofs.LearnRanges.{below-same}
 
 -- ---- a history with zeros behind it

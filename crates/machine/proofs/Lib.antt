@@ -1,7 +1,5 @@
 -- Laws that the proofs of the machine's functions share.
-pub mod Fields
 pub mod Stores
-pub mod Seats
 pub mod Contains
 pub mod Numbers
 pub mod Entry

@@ -12,8 +12,8 @@ use Rattle.model.specs.Configuration.{configuration, replicaOf}
 use Rattle.model.specs.Add.{ordererPlace, ordererReplica}
 use Rattle.model.proofs.WellFormedMembers.{Configured, head-installed}
 use Rattle.machine.specs.Orderers.{ReadyInstalled, OrdererAt}
-use Rattle.machine.proofs.Fields.{formed, active-word, member-words}
-use Rattle.machine.proofs.Seats.{member-placed}
+use Rattle.lookup.proofs.Fields.{formed, active-word, member-words}
+use Rattle.lookup.proofs.Seats.{member-placed}
 use Rattle.machine.proofs.AddWords.{length-word, length-few, history-words}
 
 pub ordered : {w : List ℕ} {z j : ℕ} → ReadyInstalled w z j → Configured (members w z j) (orderer w z j)

@@ -7,7 +7,7 @@ use lib.ListN.{length, getD}
 use Rattle.model.specs.Members.{isConfiguration}
 use Rattle.model.specs.Replicas.{replicaWords, unused}
 use Rattle.model.specs.Layout.{shardsOf, place, part}
-use Rattle.machine.specs.Inside.{Formed, ReadyHost}
+use Rattle.lookup.specs.Ready.{Formed, ReadyHost}
 
 -- a host in configuration j of a shard, and a place in its history
 pub record ReadyPlace (w : List ℕ) (z j h p : ℕ) : Type 0 where

@@ -7,7 +7,7 @@ use lib.ListN.{length, getD}
 use Rattle.model.specs.Entries.{isEntry}
 use Rattle.model.specs.Layout.{shardsOf, isInstalled}
 use Rattle.model.specs.Add.{ordererPlace}
-use Rattle.machine.specs.Inside.{Formed, Ready}
+use Rattle.lookup.specs.Ready.{Formed, Ready}
 
 -- a well-formed state and a proper entry
 pub record FormedEntry (w : List ℕ) (e : ℕ) : Type 0 where

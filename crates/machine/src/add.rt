@@ -1,6 +1,5 @@
 // Kind 1, add: an entry goes last in the orderer's history.
 use crate::arguments;
-use crate::look;
 use crate::words;
 use model::kind::Kind;
 use model::step::Step;
@@ -28,7 +27,7 @@ fn orderer_place(state: &[u64], z: usize, j: usize) -> usize
     requires { ⌜ ReadyInstalled (now state) z j ⌝ }
     ensures { λ r. ⌜ OrdererAt (now (state .entry)) z j r ⌝ }
 {
-    let c = look::configuration_of(state, z, j);
+    let c = lookup::configuration_of(state, z, j);
     c.replica(c.orderer)
 }
 
@@ -37,7 +36,7 @@ fn decide(state: &[u64], z: usize, j: usize, e: u64) -> u64
     requires { ⌜ ReadyEntry (now state) z j e ⌝ }
     ensures { λ r. ⌜ r ≡ firstOf (addChecks (now (state .entry)) z j e) ⌝ }
 {
-    if !look::is_installed(state, z, j) {
+    if !lookup::is_installed(state, z, j) {
         return 10;
     }
     let p = orderer_place(state, z, j);

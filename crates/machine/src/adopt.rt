@@ -1,6 +1,5 @@
 // Kind 2, adopt: a replica takes over the orderer's history.
 use crate::arguments;
-use crate::look;
 use crate::words;
 use model::kind::Kind;
 use model::step::Step;
@@ -12,14 +11,15 @@ ghost use Rattle.model.specs.Layout.{isInstalled};
 ghost use Rattle.model.specs.Add.{ordererPlace};
 ghost use Rattle.model.specs.Adopt.{adoptChecks, adoptEffect};
 ghost use Rattle.model.specs.Steps.{rejection, after};
-ghost use Rattle.machine.specs.Inside.{Ready, ReadyHost, Placed, ReadyKind};
+ghost use Rattle.lookup.specs.Ready.{Ready, ReadyHost, Placed};
+ghost use Rattle.machine.specs.Inside.{ReadyKind};
 
 // The place of the orderer's replica of an installed configuration.
 fn orderer_place(state: &[u64], z: usize, j: usize) -> usize
     requires { ⌜ Ready (now state) z j × (isInstalled (now state) z j ≡ true) ⌝ }
     ensures { λ r. ⌜ (r ≡ ordererPlace (now (state .entry)) z j) × Placed (now (state .entry)) r ⌝ }
 {
-    let c = look::configuration_of(state, z, j);
+    let c = lookup::configuration_of(state, z, j);
     c.replica(c.orderer)
 }
 
@@ -28,12 +28,12 @@ fn decide(state: &[u64], z: usize, j: usize, host: u64) -> u64
     requires { ⌜ ReadyHost (now state) z j host ⌝ }
     ensures { λ r. ⌜ r ≡ firstOf (adoptChecks (now (state .entry)) z j host) ⌝ }
 {
-    let seat = look::find(state, z, j, host);
+    let seat = lookup::find(state, z, j, host);
     let p = seat.place;
     if seat.answer != 0 {
         return seat.answer;
     }
-    if host == look::configuration_of(state, z, j).orderer {
+    if host == lookup::configuration_of(state, z, j).orderer {
         return 14;
     }
     if state[p] != 2 {
@@ -65,7 +65,7 @@ fn change(state: &mut [u64], z: usize, j: usize, host: u64)
     requires { ⌜ ReadyHost (now state) z j host × (firstOf (adoptChecks (now state) z j host) ≡ 0) ⌝ }
     ensures { λ _. ⌜ now (state .exit) ≡ adoptEffect (now (state .entry)) z j host ⌝ }
 {
-    let p = look::find(state, z, j, host).place;
+    let p = lookup::find(state, z, j, host).place;
     let o = orderer_place(state, z, j);
     let last = o + 64;
     let mut copy = [0u64; 64];

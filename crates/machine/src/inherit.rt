@@ -1,6 +1,5 @@
 // Kind 6, inherit: a pending replica begins from an immutable one of the configuration before.
 use crate::arguments;
-use crate::look;
 use crate::words;
 use model::kind::Kind;
 use model::step::Step;
@@ -16,7 +15,7 @@ fn decide(state: &[u64], z: usize, j: usize, host: u64, source: u64) -> u64
     requires { ⌜ ReadySource (now state) z j host source ⌝ }
     ensures { λ r. ⌜ r ≡ firstOf (inheritChecks (now (state .entry)) z j host source) ⌝ }
 {
-    let seat = look::find(state, z, j, host);
+    let seat = lookup::find(state, z, j, host);
     let p = seat.place;
     if seat.answer != 0 {
         return seat.answer;
@@ -24,7 +23,7 @@ fn decide(state: &[u64], z: usize, j: usize, host: u64, source: u64) -> u64
     if state[p] != 1 {
         return 12;
     }
-    let other = look::find(state, z, j - 1, source);
+    let other = lookup::find(state, z, j - 1, source);
     let q = other.place;
     if other.answer != 0 {
         return 13;
@@ -40,8 +39,8 @@ fn change(state: &mut [u64], z: usize, j: usize, host: u64, source: u64)
     requires { ⌜ ReadySource (now state) z j host source × (firstOf (inheritChecks (now state) z j host source) ≡ 0) ⌝ }
     ensures { λ _. ⌜ now (state .exit) ≡ inheritEffect (now (state .entry)) z j host source ⌝ }
 {
-    let p = look::find(state, z, j, host).place;
-    let q = look::find(state, z, j - 1, source).place;
+    let p = lookup::find(state, z, j, host).place;
+    let q = lookup::find(state, z, j - 1, source).place;
     let last = q + 64;
     let mut copy = [0u64; 64];
     words::copy_words(&mut copy, &state[q..last]);

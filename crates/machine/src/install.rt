@@ -1,7 +1,6 @@
 // Kind 5, install: the next configuration of a shard, issued in the history of its sequencer.
 use crate::arguments;
-use crate::look;
-use crate::look::Seat;
+use lookup::Seat;
 use model::kind::Kind;
 use model::step::Step;
 ghost use mathlib.Core.Path.{_≡_};
@@ -11,8 +10,9 @@ ghost use Rattle.model.specs.Entries.{isIssueFor, names};
 ghost use Rattle.model.specs.Layout.{sequencer};
 ghost use Rattle.model.specs.Install.{noneBefore, installChecks, putPending, installNext, installEffect};
 ghost use Rattle.model.specs.Steps.{rejection, after};
-ghost use Rattle.machine.specs.Inside.{ReadyHost, Placed, ReadyKind};
-ghost use Rattle.machine.specs.Seats.{seatOf};
+ghost use Rattle.lookup.specs.Ready.{ReadyHost, Placed};
+ghost use Rattle.machine.specs.Inside.{ReadyKind};
+ghost use Rattle.lookup.specs.Seats.{seatOf};
 ghost use Rattle.machine.specs.Installs.{ReadyPlace, ReadyNext, ReadyUnused};
 
 // Whether an entry is an issue for shard z.
@@ -55,7 +55,7 @@ fn issuer(state: &[u64], z: usize, j: usize, host: u64) -> Seat
     ensures { λ r. ⌜ (r ≡ seatOf (now (state .entry)) (sequencer (now (state .entry)) z) j host) × Placed (now (state .entry)) (r .place) ⌝ }
 {
     let y = state[z * 2112] as usize;
-    look::find(state, y, j, host)
+    lookup::find(state, y, j, host)
 }
 
 // The rejection of installing, 0 where it is accepted: 10, 11, 20, 21, 22.

@@ -1,6 +1,5 @@
 // Kind 3, learn persistence: a longer prefix of a replica's history is stable.
 use crate::arguments;
-use crate::look;
 use model::kind::Kind;
 use model::step::Step;
 ghost use mathlib.Core.Path.{_≡_};
@@ -8,7 +7,8 @@ ghost use Prim.Native.Nat.{_≤_};
 ghost use Rattle.model.specs.Checks.{firstOf};
 ghost use Rattle.model.specs.Learn.{learnChecks, learnEffect};
 ghost use Rattle.model.specs.Steps.{rejection, after};
-ghost use Rattle.machine.specs.Inside.{ReadyHost, ReadyKind};
+ghost use Rattle.lookup.specs.Ready.{ReadyHost};
+ghost use Rattle.machine.specs.Inside.{ReadyKind};
 ghost use Rattle.machine.specs.AlikeWords.{Compared, allAlikeAt};
 
 // Whether the `size` replicas from `first` on have n entries at least, and the first n like those of the replica at `own`.
@@ -39,7 +39,7 @@ fn decide(state: &[u64], z: usize, j: usize, host: u64, n: u64) -> u64
     requires { ⌜ ReadyHost (now state) z j host × (n ≤ 56) ⌝ }
     ensures { λ r. ⌜ r ≡ firstOf (learnChecks (now (state .entry)) z j host n) ⌝ }
 {
-    let seat = look::find(state, z, j, host);
+    let seat = lookup::find(state, z, j, host);
     let p = seat.place;
     if seat.answer != 0 {
         return seat.answer;
@@ -50,7 +50,7 @@ fn decide(state: &[u64], z: usize, j: usize, host: u64, n: u64) -> u64
     if n <= state[p + 2] {
         return 18;
     }
-    let c = look::configuration_of(state, z, j);
+    let c = lookup::configuration_of(state, z, j);
     if !all_alike(state, c.place, c.size() as usize, n as usize, p) {
         return 19;
     }
@@ -62,7 +62,7 @@ fn change(state: &mut [u64], z: usize, j: usize, host: u64, n: u64)
     requires { ⌜ ReadyHost (now state) z j host × (firstOf (learnChecks (now state) z j host n) ≡ 0) ⌝ }
     ensures { λ _. ⌜ now (state .exit) ≡ learnEffect (now (state .entry)) z j host n ⌝ }
 {
-    let p = look::find(state, z, j, host).place;
+    let p = lookup::find(state, z, j, host).place;
     state[p + 2] = n;
 }
 

@@ -4,7 +4,7 @@ use model::step::Step;
 ghost use mathlib.Core.Path.{_≡_};
 ghost use Rattle.model.specs.Setup.{setupRejection, afterSetup};
 ghost use Rattle.model.specs.Steps.{rejection, after};
-ghost use Rattle.machine.specs.Inside.{Formed};
+ghost use Rattle.lookup.specs.Ready.{Formed};
 
 mod add;
 mod adopt;
@@ -13,7 +13,6 @@ mod inherit;
 mod initial;
 mod install;
 mod learn;
-mod look;
 mod plan;
 mod wedge;
 mod words;

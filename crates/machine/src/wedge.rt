@@ -1,20 +1,20 @@
 // Kind 4, wedge: an active replica becomes immutable.
 use crate::arguments;
-use crate::look;
 use model::kind::Kind;
 use model::step::Step;
 ghost use mathlib.Core.Path.{_≡_};
 ghost use Rattle.model.specs.Checks.{firstOf};
 ghost use Rattle.model.specs.Wedge.{wedgeChecks, wedgeEffect};
 ghost use Rattle.model.specs.Steps.{rejection, after};
-ghost use Rattle.machine.specs.Inside.{ReadyHost, ReadyKind};
+ghost use Rattle.lookup.specs.Ready.{ReadyHost};
+ghost use Rattle.machine.specs.Inside.{ReadyKind};
 
 // The rejection of wedging, 0 where it is accepted: 10, 11, 12.
 fn decide(state: &[u64], z: usize, j: usize, host: u64) -> u64
     requires { ⌜ ReadyHost (now state) z j host ⌝ }
     ensures { λ r. ⌜ r ≡ firstOf (wedgeChecks (now (state .entry)) z j host) ⌝ }
 {
-    let seat = look::find(state, z, j, host);
+    let seat = lookup::find(state, z, j, host);
     let p = seat.place;
     if seat.answer != 0 {
         return seat.answer;
@@ -30,7 +30,7 @@ fn change(state: &mut [u64], z: usize, j: usize, host: u64)
     requires { ⌜ ReadyHost (now state) z j host × (firstOf (wedgeChecks (now state) z j host) ≡ 0) ⌝ }
     ensures { λ _. ⌜ now (state .exit) ≡ wedgeEffect (now (state .entry)) z j host ⌝ }
 {
-    let p = look::find(state, z, j, host).place;
+    let p = lookup::find(state, z, j, host).place;
     state[p] = 3;
 }
 

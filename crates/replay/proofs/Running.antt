@@ -13,7 +13,7 @@ use Rattle.model.specs.declared.Reading.the-variants.{Step as Read}
 use Rattle.model.specs.Steps.{rejection, after}
 use Rattle.model.specs.Log.{readAt}
 use Rattle.model.proofs.WellFormedSteps.{kept, step-length}
-use Rattle.machine.specs.Inside.{Formed}
+use Rattle.lookup.specs.Ready.{Formed}
 use Rattle.replay.proofs.Rest.{Rest, rest-start, rest-step}
 
 -- a well-formed state stays so

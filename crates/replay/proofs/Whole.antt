@@ -12,7 +12,7 @@ use Rattle.model.specs.WellFormed.{wellFormed}
 use Rattle.model.specs.Replay.{afterAll, replayRejection, replayed, report, afterReplay}
 use Rattle.model.proofs.Checks.{passed}
 use Rattle.model.proofs.Places.{length-of-shards}
-use Rattle.machine.specs.Inside.{Formed}
+use Rattle.lookup.specs.Ready.{Formed}
 use Rattle.replay.specs.Run.{reported, runReport, afterRun}
 
 module _ (w log : List ℕ) (budget r : ℕ) (e : r ≡ replayRejection w) where

@@ -4,7 +4,7 @@ use model::Report;
 use model::Stop;
 ghost use mathlib.Core.Path.{_≡_};
 ghost use Rattle.model.specs.Replay.{report, afterReplay};
-ghost use Rattle.machine.specs.Inside.{Formed};
+ghost use Rattle.lookup.specs.Ready.{Formed};
 ghost use Rattle.replay.specs.Run.{reported, runReport, afterRun};
 
 // Replays a log with a budget of steps: how it stopped, the steps tried, those rejected, and the bytes of whole steps.

@@ -6,12 +6,6 @@ pub mod Digits
 pub mod StopTexts
 pub mod Stores
 pub mod Chains
--- The pick of a stable history
-pub mod Stable
-pub mod Longest
-pub mod Picking
-pub mod Copying
-pub mod Listings
 -- The lines
 pub mod ShardText
 pub mod RunLines

@@ -13,11 +13,11 @@ use Rattle.model.specs.Transcript.{programPlan, programStart, shardLine, lastLi
 use Rattle.model.specs.Replay.{replayRejection, afterReplay}
 use Rattle.model.proofs.WellFormed.{WellFormed}
 use Rattle.model.proofs.ProgramStart.{start-left, start-formed}
-use Rattle.machine.specs.Inside.{Formed}
+use Rattle.lookup.specs.Ready.{Formed}
 use Rattle.replay.specs.Run.{reported, runReport, afterRun}
 use Rattle.replay.proofs.Whole.{formed}
 use Rattle.transcript.specs.declared.steps.Printed.{Printed}
-use Rattle.transcript.specs.Listing.{OfShard}
+use Rattle.histories.specs.History.{OfShard}
 use Rattle.transcript.specs.Text.{runLines, printed, RunRoom}
 use Rattle.transcript.proofs.ReplayedState.{replay-accepted, formed-replayed, formed-report, formed-after}
 use Rattle.transcript.proofs.Chains.{Put, put, first-room}

@@ -3,15 +3,16 @@ use Prim.Native.Nat.{ℕ, _+_, _≤_}
 use mathlib.Core.Bool.{cond}
 use mathlib.Core.List.{List, _++_}
 use lib.Dec.{leb}
-use lib.ListN.{length, getD, take, drop}
+use lib.ListN.{length, drop}
 use Rattle.model.specs.declared.Stop.{Stop}
 use Rattle.model.specs.declared.Writing.{Writing}
 use Rattle.model.specs.declared.Writing.the-variants.{Bytes, Rejected}
 use Rattle.model.specs.Log.{readLog}
 use Rattle.model.specs.Transcript.{decimal, spaced, spacedAll, newline, stepLines, shardLine}
-use Rattle.machine.specs.Inside.{Formed}
+use Rattle.lookup.specs.Ready.{Formed}
 use Rattle.replay.specs.Run.{runReport}
-use Rattle.transcript.specs.Listing.{OfShard}
+use Rattle.histories.specs.Entries.{entriesAt, HasEntries}
+use Rattle.histories.specs.History.{OfShard}
 use Rattle.transcript.specs.declared.steps.Printed.{Printed}
 
 -- ---- what the text function answers and leaves, for a text and an output
@@ -44,10 +45,6 @@ printed w log =
     printedAs (runReport w log 65535 .stop) (runReport w log 65535 .tried) (runReport w log 65535 .rejected)
     (runReport w log 65535 .bytes) (length (runLines w log))
 
--- the words of a replica's stable prefix
-unfoldable pub entriesAt : List ℕ → ℕ → List ℕ
-entriesAt w at = take (getD w (at + 2) 0) (drop (at + 8) w)
-
 -- ---- the state is well-formed, and the output has room
 
 pub record RunRoom (w log out : List ℕ) : Type 0 where
@@ -59,6 +56,5 @@ pub record LineRoom (out : List ℕ) (at : ℕ) (w : List ℕ) (z : ℕ) : Type 
   pub room : at + length (shardLine w z) ≤ length out
 
 pub record EntriesRoom (out : List ℕ) (at : ℕ) (w : List ℕ) (p : ℕ) : Type 0 where
-  pub fits : p + 64 ≤ length w
-  pub few : getD w (p + 2) 0 ≤ 56
+  pub has : HasEntries w p
   pub room : at + length (spacedAll (entriesAt w p)) ≤ length out

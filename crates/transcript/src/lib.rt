@@ -7,10 +7,8 @@ ghost use Rattle.model.specs.Transcript.{transcript};
 ghost use Rattle.transcript.specs.Text.{textWriting, afterText};
 
 mod bytes;
-pub mod history;
 mod last;
 mod number;
-mod pick;
 mod shards;
 mod steps;
 mod text;

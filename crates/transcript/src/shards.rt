@@ -3,13 +3,14 @@ use crate::bytes::write_bytes;
 use crate::number::write_all_spaced;
 use crate::number::write_newline;
 use crate::number::write_spaced;
-use crate::pick::longest;
+use histories::pick::longest;
 ghost use mathlib.Core.Path.{_≡_};
 ghost use Prim.Native.Nat.{_+_, _≤_};
 ghost use lib.ListN.{length};
 ghost use lib.Seq.{sets};
 ghost use Rattle.model.specs.Transcript.{spacedAll, shardLine};
-ghost use Rattle.transcript.specs.Text.{LineRoom, entriesAt, EntriesRoom};
+ghost use Rattle.histories.specs.Entries.{entriesAt};
+ghost use Rattle.transcript.specs.Text.{LineRoom, EntriesRoom};
 
 // The word `zone`, the shard's number, and the entries of its stable history.
 pub fn write_shard(out: &mut [u8], at: usize, state: &[u64], shard: u64) -> usize

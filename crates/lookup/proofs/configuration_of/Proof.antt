@@ -1,4 +1,4 @@
--- `machine::look::configuration_of` meets its contract.
+-- `lookup::configuration_of` meets its contract.
 use Prim.Native.Nat.{_+_, _*_}
 use native.Mathlib.Omega.{arith}
 use mathlib.Core.Path.{_≡_}
@@ -6,8 +6,8 @@ use lib.ListN.{getD}
 use Rattle.model.specs.Layout.{members, orderer, place, headWord, headPlace}
 use Rattle.model.specs.Configuration.{configuration}
 use borrow.Author.Needs.{needs}
-use Rattle.machine.proofs.look.configuration_of.Statement.{statement}
-use Rattle.machine.proofs.look.configuration_of.Tie as tie
+use Rattle.lookup.proofs.configuration_of.Statement.{statement}
+use Rattle.lookup.proofs.configuration_of.Tie as tie
 
 mul-t4 : tie.Need-mul-t4
 mul-t4 c = search needs

@@ -1,14 +1,14 @@
--- `machine::look::find` meets its contract.
+-- `lookup::find` meets its contract.
 use Rattle.model.specs.Members.{hasMember}
 use Rattle.model.specs.declared.configuration.Configuration.{Configuration}
 use mathlib.Core.Path.{sym, ap, _∙_}
 use borrow.Author.Tests.{not-true, not-false}
 use Rattle.model.specs.Configuration.{configuration, replicaPlace}
-use Rattle.machine.specs.Seats.{seatOf}
-use Rattle.machine.proofs.Seats.{small-place, member-placed, start-placed}
+use Rattle.lookup.specs.Seats.{seatOf}
+use Rattle.lookup.proofs.Seats.{small-place, member-placed, start-placed}
 use borrow.Author.Needs.{needs}
-use Rattle.machine.proofs.look.find.Statement.{statement}
-use Rattle.machine.proofs.look.find.Tie as tie
+use Rattle.lookup.proofs.find.Statement.{statement}
+use Rattle.lookup.proofs.find.Tie as tie
 
 is-installed-requires : tie.Need-is-installed-requires
 is-installed-requires c κs = search needs

@@ -1,9 +1,9 @@
--- `machine::look::is_installed` meets its contract.
+-- `lookup::is_installed` meets its contract.
 use mathlib.Core.Path.{refl}
 use Rattle.model.specs.Layout.{isInstalled, installed, headWord, headPlace}
 use borrow.Author.Needs.{needs}
-use Rattle.machine.proofs.look.is_installed.Statement.{statement}
-use Rattle.machine.proofs.look.is_installed.Tie as tie
+use Rattle.lookup.proofs.is_installed.Statement.{statement}
+use Rattle.lookup.proofs.is_installed.Tie as tie
 
 mul-result : tie.Need-mul-result
 mul-result c = search needs

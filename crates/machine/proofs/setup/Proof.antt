@@ -10,7 +10,8 @@ use Rattle.model.proofs.WellFormedSetup as Setup
 use mathlib.Core.Path.{sym, ap, _∙_}
 use borrow.Author.Tests.{not-true, not-false}
 use Rattle.model.specs.Setup.{isPlan, initialState}
-use Rattle.machine.proofs.Entry.{several, shards-most, setup-length, setup-plan, setup-done}
+use Rattle.lookup.proofs.Formed.{several, shards-most}
+use Rattle.machine.proofs.Entry.{setup-length, setup-plan, setup-done}
 use Rattle.machine.proofs.InitialPlan.{planned}
 use Rattle.machine.proofs.setup.Statement.{statement}
 use Rattle.machine.proofs.setup.Tie as tie

@@ -7,7 +7,8 @@ use Rattle.model.specs.Layout.{shardsOf}
 use mathlib.Core.Path.{sym, ap, _∙_}
 use borrow.Author.Tests.{not-true, not-false}
 use Rattle.machine.specs.Inside.{argumentRejection}
-use Rattle.machine.proofs.Entry.{rejects-length, rejects-early, rejects-form, formed-of}
+use Rattle.lookup.proofs.Formed.{formed-of}
+use Rattle.machine.proofs.Entry.{rejects-length, rejects-early, rejects-form}
 use Rattle.machine.proofs.step.Statement.{statement}
 use Rattle.machine.proofs.step.Tie as tie
 

@@ -1,10 +1,10 @@
--- `transcript::history::copy` meets its contract.
+-- `histories::copy::copy` meets its contract.
 use Prim.Native.Nat.{_-_}
 use lib.ListN.{length}
 use borrow.Author.Needs.{needs}
-use Rattle.transcript.proofs.Copying.{Copying, start, turn, end}
-use Rattle.transcript.proofs.history.copy.Statement.{statement}
-use Rattle.transcript.proofs.history.copy.Tie as tie
+use Rattle.histories.proofs.Copying.{Copying, start, turn, end}
+use Rattle.histories.proofs.copy.copy.Statement.{statement}
+use Rattle.histories.proofs.copy.copy.Tie as tie
 
 abbrev Inv-loop : tie.InvT-loop
 Inv-loop out₀ entries i₀ out i = Copying out₀ entries out i

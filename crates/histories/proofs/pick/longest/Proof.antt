@@ -1,11 +1,11 @@
--- `transcript::pick::longest` meets its contract.
+-- `histories::pick::longest` meets its contract.
 use Prim.Native.Nat.{_-_}
 use native.Mathlib.Omega.{arith}
 use mathlib.Core.Logic.{⊎-elim}
 use borrow.Author.Needs.{needs}
-use Rattle.transcript.proofs.Picking.{Picking, start, turn-longer, turn-other, end}
-use Rattle.transcript.proofs.pick.longest.Statement.{statement}
-use Rattle.transcript.proofs.pick.longest.Tie as tie
+use Rattle.histories.proofs.Picking.{Picking, start, turn-longer, turn-other, end}
+use Rattle.histories.proofs.pick.longest.Statement.{statement}
+use Rattle.histories.proofs.pick.longest.Tie as tie
 
 abbrev Inv-loop : tie.InvT-loop
 Inv-loop state shard first best₀ most₀ n₀ best most n = Picking state shard best most n

@@ -3,7 +3,7 @@ use mathlib.Core.Path.{ap, _∙_}
 use Rattle.model.specs.declared.configuration.Configuration.{Configuration}
 use Rattle.model.specs.Configuration.{configuration, replicaPlace}
 use Rattle.model.specs.Add.{ordererPlace}
-use Rattle.machine.proofs.Seats.{small-place}
+use Rattle.lookup.proofs.Seats.{small-place}
 use Rattle.machine.proofs.Orderers.{ordered, orderer-at}
 use borrow.Author.Needs.{needs}
 use Rattle.machine.proofs.add.orderer_place.Statement.{statement}

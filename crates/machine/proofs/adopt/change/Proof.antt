@@ -4,7 +4,7 @@ use Prim.Native.Nat.{ℕ, min}
 use lib.ListN.{length, getD, length-set}
 use Rattle.machine.proofs.AdoptAccepted.{accepted-at}
 use Rattle.model.specs.Adopt.{adoptChecks, adoptEffect}
-use Rattle.machine.proofs.Seats.{words-at}
+use Rattle.lookup.proofs.Seats.{words-at}
 use Rattle.machine.proofs.AdoptOrderer.{orderer-at, orderer-replica}
 use Rattle.machine.proofs.AdoptWords.{lent-length, put-adopted}
 use borrow.Author.Needs.{needs}

@@ -1,6 +1,6 @@
 -- `machine::adopt::decide` meets its contract.
 use Rattle.model.specs.Adopt.{adoptChecks}
-use Rattle.machine.proofs.Seats.{at-found, early}
+use Rattle.lookup.proofs.Seats.{at-found, early}
 use Rattle.machine.proofs.AdoptAnswers.{is-orderer, not-active, orderer-pending, may-adopt}
 use borrow.Author.Needs.{needs}
 use Rattle.machine.proofs.adopt.decide.Statement.{statement}

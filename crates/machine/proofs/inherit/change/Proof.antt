@@ -4,7 +4,7 @@ use lib.ListN.{length, length-set}
 use Rattle.machine.proofs.AdoptAccepted.{accepted-at}
 use Rattle.model.specs.Inherit.{inheritChecks, inheritEffect}
 use Rattle.model.proofs.Checks.{passed}
-use Rattle.machine.proofs.Seats.{words-at}
+use Rattle.lookup.proofs.Seats.{words-at}
 use Rattle.machine.proofs.InheritSource.{pending-later, source-at, source-replica, ready-before}
 use Rattle.machine.proofs.AdoptWords.{lent-length, put-inherited}
 use borrow.Author.Needs.{needs}

@@ -1,7 +1,7 @@
 -- `machine::inherit::decide` meets its contract.
 use Rattle.machine.proofs.InheritSource.{ready-before}
 use Rattle.model.specs.Inherit.{inheritChecks}
-use Rattle.machine.proofs.Seats.{at-found, early}
+use Rattle.lookup.proofs.Seats.{at-found, early}
 use Rattle.machine.proofs.InheritAnswers.{not-pending, not-there, not-immutable, may-inherit, word-later}
 use borrow.Author.Needs.{needs}
 use Rattle.machine.proofs.inherit.decide.Statement.{statement}

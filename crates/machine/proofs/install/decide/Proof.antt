@@ -6,7 +6,7 @@ use borrow.Author.Tests.{not-true, not-false}
 use Rattle.model.specs.Entries.{issueIndex}
 use Rattle.model.specs.Layout.{sequencer}
 use Rattle.model.specs.Install.{installChecks}
-use Rattle.machine.proofs.Seats.{early}
+use Rattle.lookup.proofs.Seats.{early}
 use Rattle.machine.proofs.InstallReads.{installed-few}
 use Rattle.machine.proofs.InstallAnswers.{not-stable, no-issue, not-next, last-check}
 use borrow.Author.Needs.{needs}

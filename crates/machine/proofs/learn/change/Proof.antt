@@ -1,8 +1,8 @@
 -- `machine::learn::change` meets its contract.
-use Rattle.machine.specs.declared.look.Seat.{Seat}
+use Rattle.lookup.specs.declared.Seat.{Seat}
 use mathlib.Core.Path.{ap, _∙_}
 use Rattle.model.specs.Learn.{learnChecks, learnEffect}
-use Rattle.machine.proofs.Seats.{at-found, passed-found, words-at}
+use Rattle.lookup.proofs.Seats.{at-found, passed-found, words-at}
 use Rattle.machine.proofs.Stores.{store-stable}
 use borrow.Author.Needs.{needs}
 use Rattle.machine.proofs.learn.change.Statement.{statement}

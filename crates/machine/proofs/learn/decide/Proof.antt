@@ -3,8 +3,8 @@ use mathlib.Core.Path.{sym, _∙_}
 use borrow.Author.Tests.{le-ltb, lt-ltb, eq-eqb, ne-eqb, not-true, not-false}
 use Rattle.model.specs.Checks.{firstOf}
 use Rattle.model.specs.Learn.{learnChecks}
-use Rattle.machine.proofs.Fields.{active-word, stable-word}
-use Rattle.machine.proofs.Seats.{at-found, early, words-at}
+use Rattle.lookup.proofs.Fields.{active-word, stable-word}
+use Rattle.lookup.proofs.Seats.{at-found, early, words-at}
 use Rattle.machine.proofs.LearnAlike.{compared, all-alike-words}
 use borrow.Author.Needs.{needs}
 use Rattle.machine.proofs.learn.decide.Statement.{statement}

@@ -1,9 +1,9 @@
 -- `machine::wedge::change` meets its contract.
-use Rattle.machine.specs.declared.look.Seat.{Seat}
+use Rattle.lookup.specs.declared.Seat.{Seat}
 use mathlib.Core.Path.{ap, _∙_}
 use Rattle.model.specs.Replicas.{wedged}
 use Rattle.model.specs.Wedge.{wedgeChecks, wedgeEffect}
-use Rattle.machine.proofs.Seats.{at-found, passed-found, words-at}
+use Rattle.lookup.proofs.Seats.{at-found, passed-found, words-at}
 use Rattle.machine.proofs.Stores.{store-mode}
 use borrow.Author.Needs.{needs}
 use Rattle.machine.proofs.wedge.change.Statement.{statement}

@@ -2,8 +2,8 @@
 use borrow.Author.Tests.{eq-eqb, ne-eqb}
 use Rattle.model.specs.Checks.{firstOf}
 use Rattle.model.specs.Wedge.{wedgeChecks}
-use Rattle.machine.proofs.Fields.{active-word}
-use Rattle.machine.proofs.Seats.{at-found, early}
+use Rattle.lookup.proofs.Fields.{active-word}
+use Rattle.lookup.proofs.Seats.{at-found, early}
 use borrow.Author.Needs.{needs}
 use Rattle.machine.proofs.wedge.decide.Statement.{statement}
 use Rattle.machine.proofs.wedge.decide.Tie as tie

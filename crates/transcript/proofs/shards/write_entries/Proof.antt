@@ -1,9 +1,9 @@
 -- `transcript::shards::write_entries` meets its contract.
 use borrow.Author.Needs.{needs}
 use Rattle.model.specs.Transcript.{spacedAll}
-use Rattle.transcript.specs.Text.{entriesAt}
+use Rattle.histories.specs.Entries.{entriesAt}
 use Rattle.transcript.proofs.Chains.{put, put-kept}
-use Rattle.transcript.proofs.ShardText.{entries-part}
+use Rattle.histories.proofs.Stable.{entries-part}
 use Rattle.transcript.proofs.shards.write_entries.Statement.{statement}
 use Rattle.transcript.proofs.shards.write_entries.Tie as tie
 

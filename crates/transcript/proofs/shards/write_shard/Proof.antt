@@ -2,7 +2,7 @@
 use mathlib.Core.List.{_++_}
 use borrow.Author.Needs.{needs}
 use Rattle.model.specs.Transcript.{spaced, spacedAll, newline}
-use Rattle.transcript.specs.Text.{entriesAt}
+use Rattle.histories.specs.Entries.{entriesAt}
 use Rattle.transcript.proofs.ShardText.{zone, shard-text, entries-room}
 use Rattle.transcript.proofs.Chains.{put, put-pair, put-kept, put-then, first-room, rest-room}
 use Rattle.transcript.proofs.shards.write_shard.Statement.{statement}

@@ -1,0 +1,10 @@
+-- Laws of the lists that are read off a state.
+pub mod Stable
+pub mod Longest
+pub mod Picking
+pub mod Copying
+pub mod Listings
+pub mod Histories
+pub mod Seats
+pub mod Prefixes
+pub mod Shown

@@ -1,0 +1,62 @@
+// A replica's stable prefix, copied to an output: what a host shows.
+use crate::Listing;
+use crate::copy::copy_entries;
+use lookup::Seat;
+ghost use mathlib.Core.Path.{_≡_};
+ghost use Rattle.histories.specs.Seats.{isSeatName, seatNamed};
+ghost use Rattle.histories.specs.Prefix.{prefixListing, afterPrefix};
+
+// Copies the stable prefix of a host's replica to the start of an output; a rejection (1, 7, 9, 10, 11 or 8) leaves the output untouched.
+pub fn stable_prefix(state: &[u64], shard: u64, index: u64, host: u64, out: &mut [u64]) -> Listing
+    ensures { λ r. ⌜ (r ≡ prefixListing (now (state .entry)) shard index host (now (out .entry))) × (now (out .exit) ≡ afterPrefix (now (state .entry)) shard index host (now (out .entry))) ⌝ }
+{
+    let seat = find_seat(state, shard, index, host);
+    let place = seat.place;
+    if seat.answer != 0 {
+        return Listing::Rejected(seat.answer);
+    }
+    copy_entries(state, place, out)
+}
+
+// Where the replica of a host is, in a state of which nothing is known: its place, or the rejection (1, 7, 9, 10 or 11).
+fn find_seat(state: &[u64], shard: u64, index: u64, host: u64) -> Seat
+    ensures { λ r. ⌜ r ≡ seatNamed (now (state .entry)) shard index host ⌝ }
+{
+    let shards = wellformed::shard_count(state.len());
+    if shards == 0 {
+        return nowhere(1);
+    }
+    if !is_seat_name(shards, shard, index, host) {
+        return nowhere(7);
+    }
+    if !wellformed::well_formed(state) {
+        return nowhere(9);
+    }
+    lookup::find(state, shard as usize, (index - 1) as usize, host)
+}
+
+// Whether a shard, an index and a host are in range.
+fn is_seat_name(shards: usize, shard: u64, index: u64, host: u64) -> bool
+    ensures { λ r. ⌜ r ≡ isSeatName shards shard index host ⌝ }
+{
+    if shards as u64 <= shard {
+        return false;
+    }
+    if index < 1 {
+        return false;
+    }
+    if 8 < index {
+        return false;
+    }
+    host < 16
+}
+
+// No place, because of a rejection.
+fn nowhere(rejection: u64) -> Seat
+    ensures { λ r. ⌜ (r .answer ≡ rejection) × (r .place ≡ 0) ⌝ }
+{
+    Seat {
+        answer: rejection,
+        place: 0,
+    }
+}

@@ -1,0 +1,4 @@
+-- Laws of well-formed states, of their words, and of where replicas are.
+pub mod Formed
+pub mod Fields
+pub mod Seats

@@ -1,0 +1,3 @@
+-- What the functions that look into a state require and answer.
+pub mod Ready
+pub mod Seats

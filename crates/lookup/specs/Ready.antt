@@ -1,0 +1,30 @@
+-- A state that is known to be well-formed, and what a step names of it: a shard, a configuration, a host.
+use Prim.Native.Nat.{ℕ, _+_, _*_, _≤_, _<_}
+use mathlib.Core.Path.{_≡_}
+use mathlib.Core.Bool.{true}
+use mathlib.Core.List.{List}
+use lib.ListN.{length}
+use Rattle.model.specs.Layout.{shardsOf}
+use Rattle.model.specs.WellFormed.{wellFormed}
+
+-- a well-formed state, with what that says of its length
+pub record Formed (w : List ℕ) : Type 0 where
+  pub formed : wellFormed w ≡ true
+  pub several : 2 ≤ shardsOf (length w)
+  pub most : shardsOf (length w) ≤ 8
+  pub long : length w ≡ shardsOf (length w) * 2112
+
+-- .. and a configuration j of a shard z of it
+pub record Ready (w : List ℕ) (z j : ℕ) : Type 0 where
+  pub state : Formed w
+  pub shard : z < shardsOf (length w)
+  pub configuration : j < 8
+
+-- .. and a host, as most steps name it
+pub record ReadyHost (w : List ℕ) (z j h : ℕ) : Type 0 where
+  pub ready : Ready w z j
+  pub host : h < 16
+
+-- the place of 64 words of the state
+pub record Placed (w : List ℕ) (at : ℕ) : Type 0 where
+  pub fits : at + 64 ≤ length w
