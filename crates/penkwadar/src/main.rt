@@ -1,13 +1,40 @@
-// The program: the text of the log on standard input. The log is read to one byte past the most that it may have.
+// The program: the text of the log on standard input. The log is read to one byte past the most that it may have. A failure is told in one line on
+// standard error; where the log cannot be read whole, nothing is printed.
 use model::Writing;
 ghost use Prim.Native.Nat.{_≤_};
 ghost use lib.ListN.{length as count};
 
+mod input;
+mod output;
+mod piece;
+
 fn main() {
+    if 1 < os::arg_count() {
+        usage();
+        return;
+    }
     let mut log = [0u8; 16385];
-    let count = io::read_full(0, &mut log);
+    let input = input::read_all(&mut log);
+    let count = input.count;
+    if input.whole {
+        show(&log[..count]);
+    } else {
+        os::fail(b"penkwadar: cannot read the log");
+    }
+}
+
+// What any argument gets.
+fn usage() {
+    io::write_all(
+        libc::STDERR_FILENO,
+        b"usage: penkwadar < LOG\nprints what the steps of a log do; it takes no arguments\n",
+    );
+}
+
+// Prints the text of a log.
+fn show(log: &[u8]) {
     let mut out = [0u8; transcript::MOST];
-    match transcript::transcript(&log[..count], &mut out) {
+    match transcript::transcript(log, &mut out) {
         Writing::Bytes(length) => {
             print(&out, length);
         }
@@ -19,5 +46,7 @@ fn main() {
 fn print(out: &[u8], length: usize)
     requires { ⌜ length ≤ count (now out) ⌝ }
 {
-    io::write_all(1, &out[..length]);
+    if !output::write_all(&out[..length]) {
+        os::fail(b"penkwadar: cannot write the text");
+    }
 }

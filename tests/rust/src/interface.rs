@@ -5,6 +5,7 @@
 
 use crate::rejection::{Rejection, number_of};
 use crate::report::{Report, Stop};
+use crate::seat::Seat;
 use crate::step::Step;
 use crate::{plain, proved::ffi};
 
@@ -16,6 +17,7 @@ pub trait Interface {
     fn read_step(log: &[u8], at: usize, step: &mut [u64]) -> u64;
     fn write_step(out: &mut [u8], at: usize, step: Step, count: &mut [u64]) -> u64;
     fn stable_history(state: &[u64], shard: u64, out: &mut [u64], count: &mut [u64]) -> u64;
+    fn stable_prefix(state: &[u64], seat: Seat, out: &mut [u64], count: &mut [u64]) -> u64;
     fn transcript(log: &[u8], out: &mut [u8], count: &mut [u64]) -> u64;
 }
 
@@ -56,6 +58,11 @@ impl Interface for Proved {
     #[inline]
     fn stable_history(state: &[u64], shard: u64, out: &mut [u64], count: &mut [u64]) -> u64 {
         ffi::stable_history(state, shard, out, count)
+    }
+
+    #[inline]
+    fn stable_prefix(state: &[u64], seat: Seat, out: &mut [u64], count: &mut [u64]) -> u64 {
+        ffi::stable_prefix(state, seat, out, count)
     }
 
     #[inline]
@@ -119,6 +126,11 @@ impl Interface for Plain {
     #[inline(never)]
     fn stable_history(state: &[u64], shard: u64, out: &mut [u64], count: &mut [u64]) -> u64 {
         counted(count, || plain::stable_history(state, shard, out))
+    }
+
+    #[inline(never)]
+    fn stable_prefix(state: &[u64], seat: Seat, out: &mut [u64], count: &mut [u64]) -> u64 {
+        counted(count, || plain::stable_prefix(state, seat, out))
     }
 
     #[inline(never)]

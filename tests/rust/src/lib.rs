@@ -9,6 +9,7 @@ pub mod plain;
 pub mod proved;
 pub mod rejection;
 pub mod report;
+pub mod seat;
 pub mod step;
 pub mod testing;
 pub mod view;

@@ -1,7 +1,7 @@
 //! The safe wrappers of the proved machine, on the cases that document 01 lists.
 
 use penkwadar_tests::proved::{
-    LONGEST_LOG, Rejection, Report, State, Step, Stop, read_step, state_words, transcript,
+    LONGEST_LOG, Rejection, Report, Seat, State, Step, Stop, read_step, state_words, transcript,
     write_step,
 };
 use penkwadar_tests::view::{View, issue};
@@ -120,6 +120,33 @@ fn stable_histories_into_a_buffer() {
     assert_eq!(state.stable_history_into(0, &mut out), Ok(1));
     assert_eq!(out, [7, 9, 9]);
     assert_eq!(state.stable_history_into(1, &mut []), Ok(0));
+}
+
+/// A box is read, drops out and is replaced; what its successors show is one list with it.
+#[test]
+fn boxes_show_one_list() {
+    let mut state = state();
+    let seat = |index, host| Seat { shard: 1, index, host };
+    let run = |state: &mut State, steps: &[Step]| {
+        for &step in steps {
+            assert_eq!(state.step(step), Ok(()), "{step:?}");
+        }
+    };
+    run(&mut state, &[Step::add(1, 1, 12), Step::adopt(1, 1, 3), Step::learn(1, 1, 3, 1)]);
+    let balcony = state.stable_prefix(seat(1, 3));
+    assert_eq!(balcony, Ok(vec![12]));
+    assert_eq!(state.stable_prefix(seat(1, 2)), Ok(vec![]), "box 2 has not confirmed yet");
+    run(&mut state, &[Step::add(0, 1, SUCCESSOR), Step::adopt(0, 1, 1), Step::learn(0, 1, 1, 1)]);
+    run(&mut state, &[Step::wedge(1, 1, 2), Step::wedge(1, 1, 3), Step::install(1, 1, 1, 0)]);
+    assert_eq!(state.stable_prefix(seat(2, 5)), Ok(vec![]), "a pending box shows nothing");
+    run(&mut state, &[Step::inherit(1, 2, 3, 2), Step::inherit(1, 2, 5, 3)]);
+    run(&mut state, &[Step::add(1, 2, 13), Step::adopt(1, 2, 5), Step::learn(1, 2, 5, 2)]);
+    assert_eq!(state.stable_prefix(seat(2, 5)), Ok(vec![12, 13]));
+    assert_eq!(state.stable_prefix(seat(1, 3)), balcony, "what was shown stays");
+    assert_eq!(state.stable_prefix(seat(3, 5)), Err(Rejection::NotInstalled));
+    assert_eq!(state.stable_prefix(seat(2, 2)), Err(Rejection::NoMember));
+    assert_eq!(state.stable_prefix(seat(9, 2)), Err(Rejection::Range));
+    assert_eq!(state.stable_prefix_into(seat(2, 5), &mut [0]), Err(Rejection::OutputShort));
 }
 
 /// The sample of document 01: 26 bytes, six steps, the last rejected.

@@ -29,7 +29,7 @@ pub use layout::{HISTORY, SHARD_WORDS, state_words};
 pub use reader::read_step;
 pub use replay::replay;
 pub use setup::setup;
-pub use stable::stable_history;
+pub use stable::{stable_history, stable_prefix};
 pub use state::State;
 pub use step::step;
 pub use transcript::{TEXT_BYTES, transcript};

@@ -1,8 +1,10 @@
-//! A shard's stable history.
+//! Stable histories of shards, and stable prefixes of replicas.
 
-use super::layout::{STABLE, Shard, replicas, shard_count, stable_prefix};
+use super::configuration::installed;
+use super::layout::{self, STABLE, Shard, replicas, shard_count};
 use super::wellformed::are_well_formed;
 use crate::rejection::Rejection;
+use crate::seat::Seat;
 
 /// Copies a shard's stable history to `out`; gives how many entries it has.
 pub fn stable_history(words: &[u64], shard: u64, out: &mut [u64]) -> Result<usize, Rejection> {
@@ -14,9 +16,24 @@ pub fn stable_history(words: &[u64], shard: u64, out: &mut [u64]) -> Result<usiz
     if !are_well_formed(shards) {
         return Err(Rejection::NotWellFormed);
     }
-    let stable = longest_stable(&shards[shard as usize]);
-    out.get_mut(..stable.len()).ok_or(Rejection::OutputShort)?.copy_from_slice(stable);
-    Ok(stable.len())
+    copy(longest_stable(&shards[shard as usize]), out)
+}
+
+/// Copies the stable prefix of a replica to `out`; gives how many entries it has.
+pub fn stable_prefix(words: &[u64], seat: Seat, out: &mut [u64]) -> Result<usize, Rejection> {
+    let Seat { shard, index, host } = seat;
+    let count = shard_count(words.len()).ok_or(Rejection::StateLength)?;
+    if shard >= count as u64 || !(1..=8).contains(&index) || host > 15 {
+        return Err(Rejection::Range);
+    }
+    let shards = words.as_chunks().0;
+    if !are_well_formed(shards) {
+        return Err(Rejection::NotWellFormed);
+    }
+    let shard: &Shard = &shards[shard as usize];
+    let (configuration, first) = installed(shard, index).ok_or(Rejection::NotInstalled)?;
+    let at = first + configuration.replica(host).ok_or(Rejection::NoMember)?;
+    copy(layout::stable_prefix(&replicas(shard)[at]), out)
 }
 
 /// The longest stable prefix; of equally long ones the lowest index's, then the lowest replica's.
@@ -28,5 +45,11 @@ pub fn longest_stable(shard: &Shard) -> &[u64] {
             longest = replica;
         }
     }
-    stable_prefix(longest)
+    layout::stable_prefix(longest)
+}
+
+/// Copies entries to the start of `out`; gives how many they are.
+fn copy(entries: &[u64], out: &mut [u64]) -> Result<usize, Rejection> {
+    out.get_mut(..entries.len()).ok_or(Rejection::OutputShort)?.copy_from_slice(entries);
+    Ok(entries.len())
 }

@@ -3,6 +3,7 @@
 //! The header asks for little, and slices give it: a pointer that is not null and reaches as many elements as its
 //! length says, and no overlap, since outputs are borrowed mutably. Nothing is asked of what the elements hold.
 
+use crate::seat::Seat;
 use crate::step::Step;
 
 mod c {
@@ -56,6 +57,17 @@ mod c {
             state: *const u64,
             state_len: usize,
             zone: u64,
+            out: *mut u64,
+            out_len: usize,
+            count: *mut u64,
+            count_len: usize,
+        ) -> u64;
+        pub fn penkwadar_stable_prefix(
+            state: *const u64,
+            state_len: usize,
+            zone: u64,
+            index: u64,
+            host: u64,
             out: *mut u64,
             out_len: usize,
             count: *mut u64,
@@ -148,6 +160,31 @@ pub fn stable_history(state: &[u64], shard: u64, out: &mut [u64], count: &mut [u
             state.as_ptr(),
             state.len(),
             shard,
+            out.as_mut_ptr(),
+            out.len(),
+            count.as_mut_ptr(),
+            count.len(),
+        )
+    }
+}
+
+/// Copies the stable prefix of a replica; the first word of `count` becomes the number of its entries.
+#[inline]
+pub fn stable_prefix(
+    state: &[u64],
+    Seat { shard, index, host }: Seat,
+    out: &mut [u64],
+    count: &mut [u64],
+) -> u64 {
+    // SAFETY: pointers and lengths are those of slices; outputs are borrowed mutably, so none overlap, and the
+    // header promises that `state` is only read.
+    unsafe {
+        c::penkwadar_stable_prefix(
+            state.as_ptr(),
+            state.len(),
+            shard,
+            index,
+            host,
             out.as_mut_ptr(),
             out.len(),
             count.as_mut_ptr(),

@@ -11,6 +11,7 @@ mod transcript;
 
 pub use crate::rejection::Rejection;
 pub use crate::report::{Report, Stop};
+pub use crate::seat::Seat;
 pub use crate::step::Step;
 pub use codec::{read_step, write_step};
 pub use state::{State, state_words};

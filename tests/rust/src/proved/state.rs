@@ -4,6 +4,7 @@ use super::answer::{replayed, result};
 use super::ffi;
 use crate::rejection::Rejection;
 use crate::report::Report;
+use crate::seat::Seat;
 use crate::step::Step;
 
 /// The length of a state for so many shards, if there may be so many.
@@ -58,6 +59,21 @@ impl<W: AsRef<[u64]>> State<W> {
     pub fn stable_history_into(&self, shard: u64, out: &mut [u64]) -> Result<usize, Rejection> {
         let mut count = [0];
         result(ffi::stable_history(self.words(), shard, out, &mut count))?;
+        Ok(count[0] as usize)
+    }
+
+    /// What a host shows of a configuration: the stable prefix of its replica.
+    pub fn stable_prefix(&self, seat: Seat) -> Result<Vec<u64>, Rejection> {
+        let mut out = vec![0; HISTORY];
+        let length = self.stable_prefix_into(seat, &mut out)?;
+        out.truncate(length);
+        Ok(out)
+    }
+
+    /// Copies the stable prefix of a replica to the start of `out` and gives its length.
+    pub fn stable_prefix_into(&self, seat: Seat, out: &mut [u64]) -> Result<usize, Rejection> {
+        let mut count = [0];
+        result(ffi::stable_prefix(self.words(), seat, out, &mut count))?;
         Ok(count[0] as usize)
     }
 }

@@ -2,6 +2,7 @@
 
 use super::twin::Twin;
 use crate::interface::{Interface, Plain, Proved};
+use crate::seat::Seat;
 use crate::step::Step;
 
 /// What an output holds before a call.
@@ -133,6 +134,26 @@ pub fn stable_history(
         &call,
         |out, count| Plain::stable_history(plain, shard, out, count),
         |out, count| Proved::stable_history(proved, shard, out, count),
+    );
+    state.settle(true, &call);
+    answer
+}
+
+/// The count of entries copied, or the rejection. The state is compared as well: it is only read.
+pub fn stable_prefix(
+    state: &mut Twin<u64>,
+    seat: Seat,
+    out: &mut Twin<u64>,
+    count_len: usize,
+) -> Result<usize, u64> {
+    let call = ("stable_prefix", seat, out.get().len(), count_len);
+    let (plain, proved) = state.both();
+    let answer = counted(
+        out,
+        count_len,
+        &call,
+        |out, count| Plain::stable_prefix(plain, seat, out, count),
+        |out, count| Proved::stable_prefix(proved, seat, out, count),
     );
     state.settle(true, &call);
     answer

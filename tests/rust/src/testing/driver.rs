@@ -13,7 +13,8 @@ use super::tried::{Tried, caps};
 use super::twin::Twin;
 use crate::claims::Claims;
 use crate::plain;
-use crate::view::{HISTORY, SHARD_WORDS, View};
+use crate::seat::Seat;
+use crate::view::{HISTORY, Replica, SHARD_WORDS, View};
 
 pub struct Driver<'a> {
     pub random: &'a mut Random,
@@ -22,6 +23,8 @@ pub struct Driver<'a> {
     state: Twin<u64>,
     /// Only runs from setup have claims.
     claims: Option<Claims>,
+    /// The longest list that a host of each shard has shown.
+    shown: Vec<Vec<u64>>,
 }
 
 impl<'a> Driver<'a> {
@@ -34,7 +37,8 @@ impl<'a> Driver<'a> {
         assert_eq!(answer, 0, "setup of {plan:?}");
         coverage.answer(answer);
         let claims = Claims::after_setup(state.get()).expect("the claims after setup");
-        Driver { temper: Temper::any(random), random, coverage, state, claims: Some(claims) }
+        let shown = vec![Vec::new(); shards as usize];
+        Driver { temper: Temper::any(random), random, coverage, state, claims: Some(claims), shown }
     }
 
     /// Calls on borrowed words that need not come from any setup.
@@ -49,6 +53,7 @@ impl<'a> Driver<'a> {
             coverage,
             state: Twin::new(words),
             claims: None,
+            shown: Vec::new(),
         }
     }
 
@@ -116,13 +121,41 @@ impl<'a> Driver<'a> {
         log
     }
 
-    /// Looks at a shard's stable history: in a run it is that of the reference shard.
+    /// Looks at a shard's stable history and at what one of its hosts shows.
     fn look(&mut self) {
         let shard = self.random.below(View::new(self.state.get()).shards());
+        self.look_at_shard(shard);
+        self.look_at_replica(shard);
+    }
+
+    /// In a run a shard's stable history is that of the reference shard.
+    fn look_at_shard(&mut self, shard: u64) {
         let mut out = Twin::filled(HISTORY, u64::MAX);
         let length = both::stable_history(&mut self.state, shard, &mut out, 1).expect("a history");
         if let Some(claims) = &self.claims {
             assert_eq!(&out.get()[..length], claims.reference(shard), "shard {shard}");
+        }
+    }
+
+    /// In a run what a host shows begins what the reference shard holds, and is one list with all that hosts of its
+    /// shard showed before.
+    fn look_at_replica(&mut self, shard: u64) {
+        let view = View::new(self.state.get());
+        let replicas: Vec<Replica> = view.all_replicas(shard).collect();
+        let replica = self.random.pick(&replicas);
+        let seat = Seat { shard, index: replica.index, host: replica.host };
+        let stable = replica.stable().to_vec();
+        let mut out = Twin::filled(HISTORY, u64::MAX);
+        let length = both::stable_prefix(&mut self.state, seat, &mut out, 1).expect("a replica");
+        let shown = &out.get()[..length];
+        assert_eq!(shown, stable, "{seat:?}");
+        if let Some(claims) = &self.claims {
+            assert!(claims.reference(shard).starts_with(shown), "{seat:?}");
+            let before = &mut self.shown[shard as usize];
+            assert!(before.starts_with(shown) || shown.starts_with(before), "{seat:?}");
+            if before.len() < length {
+                *before = shown.to_vec();
+            }
         }
     }
 }
