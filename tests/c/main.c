@@ -1,6 +1,6 @@
 /* The proved machine called from C: two zones, a take that becomes stable, a log, a transcript, rejections.
  *
- *     cc -Wall -Wextra -Werror -I include tests/c/main.c target/staticlib/libcapi.a
+ *     cc -Wall -Wextra -Werror -I include tests/c/main.c include/libpenkwadar.a
  *
  * Prints one line with the number of checks, and ends with status 1 where one failed. */
 #include <stdio.h>
@@ -12,8 +12,18 @@
 #define WORDS (2 * PENKWADAR_ZONE_WORDS)
 #define UNWRITTEN 0xeeeeeeeeeeeeeeeeULL
 
-enum { ADD = 1, ADOPT, CONFIRM, WEDGE, INSTALL, INHERIT };
-enum { PENDING = 1, ACTIVE, IMMUTABLE };
+enum {
+    ADD = PENKWADAR_ADD,
+    ADOPT = PENKWADAR_ADOPT,
+    LEARN = PENKWADAR_LEARN,
+    WEDGE = PENKWADAR_WEDGE,
+    INSTALL = PENKWADAR_INSTALL,
+    INHERIT = PENKWADAR_INHERIT
+};
+enum { PENDING = PENKWADAR_PENDING, ACTIVE = PENKWADAR_ACTIVE, IMMUTABLE = PENKWADAR_IMMUTABLE };
+
+/* Boxes 3 and 5, orderer 3, for index 2 of zone 1. */
+#define ISSUE PENKWADAR_ISSUE(2, 1, 3, PENKWADAR_MEMBER(3) + PENKWADAR_MEMBER(5))
 
 static unsigned checks, failed;
 
@@ -73,7 +83,7 @@ static int all_bytes(const uint8_t *bytes, size_t count, uint8_t value)
 /* The first word of a seat of index 1. */
 static const uint64_t *seat(unsigned zone, unsigned number)
 {
-    return state + zone * PENKWADAR_ZONE_WORDS + 64 + number * 64;
+    return state + PENKWADAR_SEAT(zone, 1, number);
 }
 
 static void check_setup(void)
@@ -93,6 +103,10 @@ static void check_setup(void)
     CHECK(penkwadar_setup(state, WORDS, plan, 6) == 0);
     CHECK(state[0] == 1 && state[1] == 1 && state[2] == 3 && state[10] == 0);
     CHECK(state[PENKWADAR_ZONE_WORDS] == 0 && state[PENKWADAR_ZONE_WORDS + 2] == 12);
+    CHECK(state[PENKWADAR_ZONE_WORDS + 10] == 2);
+    CHECK(PENKWADAR_SEQUENCER(1) == PENKWADAR_ZONE_WORDS && PENKWADAR_INSTALLED(1) == PENKWADAR_ZONE_WORDS + 1);
+    CHECK(PENKWADAR_MEMBERS(1, 8) == PENKWADAR_ZONE_WORDS + 9 && PENKWADAR_ORDERER(1, 1) == PENKWADAR_ZONE_WORDS + 10);
+    CHECK(PENKWADAR_SEAT(1, 8, 3) == 2 * PENKWADAR_ZONE_WORDS - 64 && ISSUE == 4329766952ULL);
     CHECK(seat(0, 0)[0] == ACTIVE && seat(0, 1)[0] == ACTIVE && seat(0, 2)[0] == 0);
 }
 
@@ -101,11 +115,11 @@ static void check_take(void)
 {
     CHECK(step(ADD, 0, 1, 7, 0) == 0);
     CHECK(seat(0, 0)[1] == 1 && seat(0, 0)[8] == 7);
-    CHECK(step(CONFIRM, 0, 1, 0, 1) == PENKWADAR_NOT_ALIKE && state_unchanged());
+    CHECK(step(LEARN, 0, 1, 0, 1) == PENKWADAR_NOT_ALIKE && state_unchanged());
     CHECK(step(ADOPT, 0, 1, 1, 0) == 0);
     CHECK(seat(0, 1)[1] == 1 && seat(0, 1)[8] == 7 && seat(0, 1)[2] == 0);
-    CHECK(step(CONFIRM, 0, 1, 0, 1) == 0);
-    CHECK(step(CONFIRM, 0, 1, 1, 1) == 0);
+    CHECK(step(LEARN, 0, 1, 0, 1) == 0);
+    CHECK(step(LEARN, 0, 1, 1, 1) == 0);
     CHECK(seat(0, 0)[2] == 1 && seat(0, 1)[2] == 1);
 }
 
@@ -116,13 +130,13 @@ static void check_rejected_steps(void)
     CHECK(step(ADD, 2, 1, 8, 0) == PENKWADAR_RANGE && state_unchanged());
     CHECK(step(ADOPT, 0, 1, 0, 0) == PENKWADAR_BY_ORDERER && state_unchanged());
     CHECK(step(ADOPT, 0, 1, 2, 0) == PENKWADAR_NO_MEMBER && state_unchanged());
-    CHECK(step(CONFIRM, 0, 1, 0, 0) == PENKWADAR_NOT_ABOVE_STABLE && state_unchanged());
+    CHECK(step(LEARN, 0, 1, 0, 0) == PENKWADAR_NOT_ABOVE_STABLE && state_unchanged());
     CHECK(step(INSTALL, 1, 1, 0, 0) == PENKWADAR_NO_STABLE_ISSUE && state_unchanged());
     CHECK(step(INHERIT, 0, 1, 0, 0) == PENKWADAR_ACTING_MODE && state_unchanged());
     CHECK(step(7, 0, 0, 0, 0) == PENKWADAR_KIND_KEPT && state_unchanged());
     CHECK(step(0, 0, 0, 0, 0) == PENKWADAR_KIND_UNKNOWN && state_unchanged());
     /* Boxes 3 and 5 for index 2 of zone 1 are issued by zone 0 only. */
-    CHECK(step(ADD, 1, 1, 4329766952ULL, 0) == PENKWADAR_OTHER_SEQUENCER && state_unchanged());
+    CHECK(step(ADD, 1, 1, ISSUE, 0) == PENKWADAR_OTHER_SEQUENCER && state_unchanged());
     CHECK(penkwadar_step(state, WORDS - 1, WEDGE, 0, 1, 0, 0) == PENKWADAR_STATE_LENGTH && state_unchanged());
     state[1] = 9;
     CHECK(step(WEDGE, 0, 1, 0, 0) == PENKWADAR_NOT_WELL_FORMED && state_unchanged());
@@ -143,16 +157,41 @@ static void check_stable_history(void)
     CHECK(penkwadar_stable_history(state, WORDS, 1, out, 0, count, 1) == 0 && count[0] == 0);
 }
 
+/* What single boxes show: both confirmed the take; nothing was confirmed in zone 1. */
+static void check_stable_prefix(void)
+{
+    uint64_t out[PENKWADAR_LIST_ENTRIES], count[2] = {UNWRITTEN, UNWRITTEN};
+    memset(out, 0xee, sizeof out);
+    CHECK(penkwadar_stable_prefix(state, WORDS, 0, 1, 1, out, 1, count, 0) == PENKWADAR_OUTPUT_SHORT);
+    CHECK(penkwadar_stable_prefix(state, WORDS - 1, 2, 0, 16, out, 1, count, 1) == PENKWADAR_STATE_LENGTH);
+    CHECK(penkwadar_stable_prefix(state, WORDS, 2, 1, 1, out, 1, count, 1) == PENKWADAR_RANGE);
+    CHECK(penkwadar_stable_prefix(state, WORDS, 0, 0, 1, out, 1, count, 1) == PENKWADAR_RANGE);
+    CHECK(penkwadar_stable_prefix(state, WORDS, 0, 9, 1, out, 1, count, 1) == PENKWADAR_RANGE);
+    CHECK(penkwadar_stable_prefix(state, WORDS, 0, 1, 16, out, 1, count, 1) == PENKWADAR_RANGE);
+    CHECK(penkwadar_stable_prefix(state, WORDS, 0, 2, 2, out, 1, count, 1) == PENKWADAR_NOT_INSTALLED);
+    CHECK(penkwadar_stable_prefix(state, WORDS, 0, 1, 2, out, 0, count, 1) == PENKWADAR_NO_MEMBER);
+    CHECK(penkwadar_stable_prefix(state, WORDS, 0, 1, 1, out, 0, count, 1) == PENKWADAR_OUTPUT_SHORT);
+    state[1] = 9;
+    CHECK(penkwadar_stable_prefix(state, WORDS, 0, 2, 2, out, 1, count, 1) == PENKWADAR_NOT_WELL_FORMED);
+    state[1] = 1;
+    CHECK(all_words(out, PENKWADAR_LIST_ENTRIES, UNWRITTEN) && all_words(count, 2, UNWRITTEN));
+    CHECK(penkwadar_stable_prefix(state, WORDS, 0, 1, 1, out, PENKWADAR_LIST_ENTRIES, count, 2) == 0);
+    CHECK(count[0] == 1 && count[1] == UNWRITTEN && out[0] == 7);
+    CHECK(all_words(out + 1, PENKWADAR_LIST_ENTRIES - 1, UNWRITTEN));
+    CHECK(penkwadar_stable_prefix(state, WORDS, 1, 1, 3, out, 0, count, 1) == 0 && count[0] == 0);
+}
+
 /* Zone 0 issues boxes 3 and 5 for index 2 of zone 1; box 3 starts from the frozen list of box 2. */
 static void check_reconfiguration(void)
 {
-    const uint64_t *heir = state + PENKWADAR_ZONE_WORDS + 64 + 256;
-    CHECK(step(ADD, 0, 1, 4329766952ULL, 0) == 0);
+    const uint64_t *heir = state + PENKWADAR_SEAT(1, 2, 0);
+    CHECK(step(ADD, 0, 1, ISSUE, 0) == 0);
     CHECK(step(ADOPT, 0, 1, 1, 0) == 0);
-    CHECK(step(CONFIRM, 0, 1, 1, 2) == 0);
+    CHECK(step(LEARN, 0, 1, 1, 2) == 0);
     CHECK(step(ADD, 1, 1, 300, 0) == 0);
     CHECK(step(INSTALL, 1, 1, 1, 1) == 0);
-    CHECK(state[PENKWADAR_ZONE_WORDS + 1] == 2 && state[PENKWADAR_ZONE_WORDS + 3] == 40);
+    CHECK(state[PENKWADAR_INSTALLED(1)] == 2);
+    CHECK(state[PENKWADAR_MEMBERS(1, 2)] == 40 && state[PENKWADAR_ORDERER(1, 2)] == 3);
     CHECK(heir[0] == PENDING && heir[64] == PENDING && heir[128] == 0);
     CHECK(step(INHERIT, 1, 2, 3, 2) == PENKWADAR_OTHER_MODE && state_unchanged());
     CHECK(step(WEDGE, 1, 1, 2, 0) == 0);
@@ -266,6 +305,7 @@ int main(void)
     check_take();
     check_rejected_steps();
     check_stable_history();
+    check_stable_prefix();
     check_reconfiguration();
     check_wedge();
     check_read();

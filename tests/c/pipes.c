@@ -1,5 +1,6 @@
-/* Runs a program with a pipe that does not block: `pipes in PROGRAM` feeds it standard input in pieces with pauses, `pipes out PROGRAM` takes what it
- * writes slowly, out of a pipe that holds 4,096 bytes, and copies it to standard output. The status is 0 where all of that could be done. */
+/* Runs a program with a pipe that does not block: `pipes in PROGRAM` feeds it standard input in pieces with pauses,
+ * `pipes out PROGRAM` takes what it writes slowly, out of a pipe that holds 4,096 bytes, and copies it to standard
+ * output. The status is 0 where all of that could be done. */
 #define _GNU_SOURCE
 #include <fcntl.h>
 #include <string.h>

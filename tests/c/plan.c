@@ -1,5 +1,6 @@
-/* A library to preload: what read on standard input and write on standard output do. READS and WRITES are plans, one word a call:
- * a number lets at most so many bytes through, the name of an error makes the call fail. After its last word a plan is as if there were none. */
+/* A library to preload: what read on standard input and write on standard output do. READS and WRITES are plans, one
+ * word a call: a number lets at most so many bytes through, the name of an error makes the call fail. After its last
+ * word a plan is as if there were none. */
 #include <errno.h>
 #include <stdlib.h>
 #include <string.h>
