@@ -1,4 +1,5 @@
 -- `histories::copy::copy_entries` meets its contract.
+use native.Mathlib.Omega.{arith}
 use mathlib.Core.Path.{_∙_}
 use Rattle.histories.proofs.Listings.{rejects-room, copies}
 use borrow.Author.Needs.{needs}
@@ -17,7 +18,7 @@ shared-slice-read-count c = search needs
 returns : tie.Need-returns
 returns c =
     let s = c .before .before .before .before in
-    rejects-room (s .args .state .now) (s .args .place) (s .args .out .now) (s .pre) (c .if1 .taken)
+    rejects-room (s .args .state .now) (s .args .place) (s .args .out .now) (s .pre) (omega (arith, c .if1))
 
 add-copy : tie.Need-add-copy
 add-copy c = search needs
@@ -50,7 +51,7 @@ returns-2 : tie.Need-returns-2
 returns-2 c =
     let t = c .before .before .before .before .before in
     let s = t .before .before .before .before in
-    let e = copies (s .args .state .now) (s .args .place) (s .args .out .now) (s .pre) (t .if1 .left) in
+    let e = copies (s .args .state .now) (s .args .place) (s .args .out .now) (s .pre) (omega (arith, t .if1)) in
     (e .0, c .before .before .copy .ensures ∙ e .1)
 
 pub copy-entries-spec : {M : Type 1} → statement M
