@@ -55,7 +55,7 @@ pub record OneList (w : List ℕ) (ms : List Moment) : Type 0 where
   -- "Each is what the zone's one lone box held at some point up to that moment"
   pub held : (z j h m : ℕ) → Seated (stateAt w ms m) z j h → Held z (choice z) ms m (stableOf (stateAt w ms m) z j h)
   -- "At every moment, every configuration after a zone's first is the first issue for that zone and index in the confirmed list of the zone that
-  -- appoints it": configuration j + 1 has index j + 2
+  -- appoints it": configuration j + 1 has index j + 2. `Appointed.antt` reads members and orderer off that issue
   pub issued :
       (z j n : ℕ) → z < shards w → suc j < installed (stateAt w ms n) z
       → firstIssue z (j + 2) (stableHistory (stateAt w ms n) (sequencer (stateAt w ms n) z))
