@@ -158,7 +158,7 @@ uint64_t penkwadar_replay(uint64_t *state, size_t state_len, const uint8_t *log,
  * Rejections: 8 (step_len below 6), then 3 to 6. */
 uint64_t penkwadar_read_step(const uint8_t *log, size_t log_len, size_t at, uint64_t *step, size_t step_len);
 
-/* Writes a step's bytes at a position of out; the first word of count becomes how many they are, at most 25.
+/* Writes a step's bytes at a position of out; the first word of count becomes how many they are, at most 21.
  * Rejections: 8 (count_len below 1), then 3, 4, 7 (in the writer's meaning), and 8 (out is too short). */
 uint64_t penkwadar_write_step(uint8_t *out, size_t out_len, size_t at, uint64_t kind, uint64_t a, uint64_t b,
                               uint64_t c, uint64_t d, uint64_t *count, size_t count_len);

@@ -56,4 +56,5 @@ unfolding replicaAt
 member-words {w} {z} {j} r h e =
     rw (replica-place w z j h)
     (part-is-words (shardsOf (length w)) j _ (part w (place z j (replicaNumber (members w z j) h)))
-    (formed (r .state) .parts z j (replicaNumber (members w z j) h) (r .shard) (r .configuration) (number-small (formed (r .state)) (r .shard) (r .configuration) h e)))
+    (formed (r .state) .parts z j (replicaNumber (members w z j) h) (r .shard) (r .configuration)
+    (number-small (formed (r .state)) (r .shard) (r .configuration) h e)))

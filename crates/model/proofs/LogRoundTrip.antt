@@ -46,7 +46,8 @@ empty-written [] e = none-written
 empty-written (b ∷ bs) e = absurd (let q : _≡_ {A = ℕ} 0 1 = cc in omega arith)
 
 -- one step before a log that was written
-step-written : (bs : List ℕ) (s : Step) (n : ℕ) {ss : List Step} → Whole bs s n → allOf isByte bs ≡ true → EncodedLog (drop n bs) ss → EncodedLog bs (s ∷ ss)
+step-written : (bs : List ℕ) (s : Step) (n : ℕ) {ss : List Step} → Whole bs s n → allOf isByte bs ≡ true → EncodedLog (drop n bs) ss
+    → EncodedLog bs (s ∷ ss)
 unfolding logBytes
 step-written bs s n g h rest =
     record {

@@ -14,7 +14,8 @@ use Rattle.model.specs.Log.{readLog}
 use Rattle.model.specs.Replay.{afterAll, replayRejection, replayed, report, afterReplay}
 use Rattle.model.specs.StableHistory.{stableHistory}
 use Rattle.model.specs.Prefixes.{Begins}
-use Rattle.model.specs.Transcript.{spaced, spacedAll, newline, stepLines, shardLine, lastLine, programPlan, programStart, programBudget, lines, transcript}
+use Rattle.model.specs.Transcript.{spaced, spacedAll, newline, stepLines, shardLine, lastLine, lines, transcript}
+use Rattle.model.specs.Transcript.{programPlan, programStart, programBudget}
 use Rattle.model.specs.Runs.{replay, Moment, triedBy, moments, played, stateAt}
 use Rattle.model.specs.OneList.{shards}
 use Rattle.model.specs.StableGrowth.{StableGrows, StableGrowth}

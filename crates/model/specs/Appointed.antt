@@ -19,8 +19,8 @@ pub record IsIssueOf (index shard o m e : ℕ) : Type 0 where
   pub itsOrderer : issueOrderer e ≡ o
   pub itsMembers : issueMembers e ≡ m
 
--- w is the state after setup, ms every step tried since: "A configuration is that issue when its members and orderer are those in it", read off the word
--- of the first issue for its shard and index
+-- w is the state after setup, ms every step tried since: "A configuration is that issue when its members and orderer are those in it", read off
+-- the word of the first issue for its shard and index
 unfoldable pub AppointedIn : List ℕ → List Moment → Type 0
 AppointedIn w ms =
     (z j n : ℕ) → z < shards w → suc j < installed (stateAt w ms n) z

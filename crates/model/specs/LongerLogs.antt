@@ -1,5 +1,5 @@
--- What the text of a log shows as confirmed, the text of every longer log that begins with it shows too: each shard's line begins its line there. It is
--- proved in `proofs/LongerLogs.antt` (`longer-logs`).
+-- What the text of a log shows as confirmed, the text of every longer log that begins with it shows too: each shard's line begins its line there.
+-- It is proved in `proofs/LongerLogs.antt` (`longer-logs`).
 use Prim.Native.Nat.{ℕ, _≤_, _<_}
 use mathlib.Core.Path.{_≡_}
 use mathlib.Core.List.{List, [], _∷_, _++_}

@@ -1,4 +1,6 @@
 // What one call of `read` or `write` moved.
+ghost use mathlib.Core.Path.{_≡_};
+ghost use Rattle.penkwadar.specs.Passing.{isPassing};
 
 // How many bytes, and whether to go on: not at the end of the input, nor where the call failed for good.
 pub struct Piece {
@@ -8,7 +10,9 @@ pub struct Piece {
 }
 
 // Whether a failed call is to be made again: a signal interrupted it, or nothing can be moved yet. Then other processes may run first.
-pub fn is_passing(error: i32) -> bool {
+pub fn is_passing(error: i32) -> bool
+    ensures { λ r. ⌜ r ≡ isPassing error ⌝ }
+{
     if error == libc::EINTR {
         return true;
     }

@@ -24,6 +24,19 @@ fn longest(words: &[u64], shard: u64) -> &[u64] {
     longest
 }
 
+/// Puts a state out of form now and then, and says whether it did; now and then takes a word away.
+fn spoil_state(random: &mut Random, words: &mut Vec<u64>) -> bool {
+    let out_of_form = random.chance(15);
+    if out_of_form {
+        let place = random.place(words.len());
+        words[place] = u64::MAX;
+    }
+    if random.chance(10) {
+        words.pop();
+    }
+    out_of_form
+}
+
 #[test]
 fn stable_histories() {
     let mut random = Random::new(settings::seed());
@@ -40,14 +53,7 @@ fn stable_histories() {
             false => Vec::new(),
         };
         let (out_len, count_len) = (random.place(60), random.weighted(&[5, 90, 5]));
-        let out_of_form = random.chance(15);
-        if out_of_form {
-            let place = random.place(words.len());
-            words[place] = u64::MAX;
-        }
-        if random.chance(10) {
-            words.pop();
-        }
+        let out_of_form = spoil_state(&mut random, &mut words);
         let answer = match () {
             _ if count_len == 0 => 8,
             _ if !words.len().is_multiple_of(SHARD_WORDS) => 1,
@@ -108,14 +114,7 @@ fn stable_prefixes() {
             _ => 56,
         };
         let count_len = random.weighted(&[5, 90, 5]);
-        let out_of_form = random.chance(15);
-        if out_of_form {
-            let place = random.place(words.len());
-            words[place] = u64::MAX;
-        }
-        if random.chance(10) {
-            words.pop();
-        }
+        let out_of_form = spoil_state(&mut random, &mut words);
         let answer = match &expected {
             _ if count_len == 0 => 8,
             _ if !words.len().is_multiple_of(SHARD_WORDS) => 1,

@@ -1,7 +1,9 @@
 -- `lookup::find` meets its contract.
+use Prim.Native.Nat.{ℕ}
+use mathlib.Core.Path.{_≡_, sym, ap, _∙_}
+use mathlib.Core.Bool.{Bool}
 use Rattle.model.specs.Members.{hasMember}
 use Rattle.model.specs.declared.configuration.Configuration.{Configuration}
-use mathlib.Core.Path.{sym, ap, _∙_}
 use borrow.Author.Tests.{not-true, not-false}
 use Rattle.model.specs.Configuration.{configuration, replicaPlace}
 use Rattle.lookup.specs.Seats.{seatOf}
@@ -9,6 +11,10 @@ use Rattle.lookup.proofs.Seats.{small-place, member-placed, start-place
 use borrow.Author.Needs.{needs}
 use Rattle.lookup.proofs.find.Statement.{statement}
 use Rattle.lookup.proofs.find.Tie as tie
+
+-- the test of membership is that of the configuration that was found
+has-member : (h : ℕ) {r : Bool} {k x : Configuration} → k ≡ x → r ≡ hasMember (k .members) h → r ≡ hasMember (x .members) h
+has-member h e f = f ∙ ap (λ (y : Configuration). hasMember (y .members) h) e
 
 is-installed-requires : tie.Need-is-installed-requires
 is-installed-requires c κs = search needs
@@ -26,28 +32,29 @@ has-requires c κs = search needs
 
 returns-2 : tie.Need-returns-2
 unfolding seatOf configuration
-returns-2 c = (
-  simp (
-    sym (c .before .before .before .before .is-installed .ensures) ∙ not-false _ (c .before .before .before .if1 .left),
-    sym (c .before .has .ensures ∙ ap (λ (k : Configuration). hasMember (k .members) (c .before .before .before .before .before .before .args .host)) (c .before .before .configuration-of .ensures)) ∙ not-true _ (c .if2 .taken),
-  ),
-  start-placed (c .before .before .before .before .before .before .pre .ready),
-)
+returns-2 c =
+    let k = c .before .before in
+    let i = k .before in
+    let s = i .before .before .before in
+    let m = has-member (s .args .host) (k .configuration-of .ensures) (c .before .has .ensures) in
+    (simp (sym (i .before .is-installed .ensures) ∙ not-false _ (i .if1 .left), sym m ∙ not-true _ (c .if2 .taken)), start-placed (s .pre .ready))
 
 replica-requires : tie.Need-replica-requires
 replica-requires c κs =
-    (c .before .before .before .before .before .before .pre .host, rw (c .before .before .configuration-of .ensures) (small-place (c .before .before .before .before .before .before .pre .ready)))
+    let k = c .before .before in
+    let s = k .before .before .before .before in
+    (s .pre .host, rw (k .configuration-of .ensures) (small-place (s .pre .ready)))
 
 returns-3 : tie.Need-returns-3
 unfolding seatOf configuration
 returns-3 c =
-    let h = c .before .before .before .before .before .before .before .args .host in
-    let r = c .before .before .before .before .before .before .before .pre .ready in
-    let m = sym (c .before .before .has .ensures ∙ ap (λ (k : Configuration). hasMember (k .members) h) (c .before .before .before .configuration-of .ensures)) ∙ not-false _ (c .before .if2 .left) in
-    let p = c .replica .ensures ∙ ap (λ (k : Configuration). replicaPlace k h) (c .before .before .before .configuration-of .ensures) in (
-      simp (p, sym (c .before .before .before .before .before .is-installed .ensures) ∙ not-false _ (c .before .before .before .before .if1 .left), m),
-      rw p (member-placed r h m),
-    )
+    let k = c .before .before .before in
+    let i = k .before in
+    let s = i .before .before .before in
+    let h = s .args .host in
+    let m = sym (has-member h (k .configuration-of .ensures) (c .before .before .has .ensures)) ∙ not-false _ (c .before .if2 .left) in
+    let p = c .replica .ensures ∙ ap (λ (x : Configuration). replicaPlace x h) (k .configuration-of .ensures) in
+    (simp (p, sym (i .before .is-installed .ensures) ∙ not-false _ (i .if1 .left), m), rw p (member-placed (s .pre .ready) h m))
 
 pub find-spec : {M : Type 1} → statement M
 find-spec =

@@ -11,7 +11,8 @@ use borrow.Author.Needs.{needs}
 use Rattle.penkwadar.proofs.show.Statement.{statement}
 use Rattle.penkwadar.proofs.show.Tie as tie
 
-within : (out text : List ℕ) {last : List ℕ} {r : Writing} {n : ℕ} → (r ≡ textWriting out text) × (last ≡ afterText out text) → r ≡ Bytes n → n ≤ length last
+within : (out text : List ℕ) {last : List ℕ} {r : Writing} {n : ℕ} → (r ≡ textWriting out text) × (last ≡ afterText out text)
+    → r ≡ Bytes n → n ≤ length last
 within out text e f = rw (e .1, text-kept out text) (fits-output out text (sym f ∙ e .0))
 
 slice-aggregate-transcript : tie.Need-slice-aggregate-transcript

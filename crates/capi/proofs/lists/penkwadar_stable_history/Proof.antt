@@ -28,7 +28,8 @@ unfolding historyAnswer entriesAfter entryCountAfter
 returns-2 c =
     let l = c .before .before .before .before .before .before in
     let p = c .before .before .put-listing .ensures in
-    let k = counted _ _ _ (l .before .before .if1 .left) listingNumber listingWord (l .stable-history .result) (sym (l .stable-history .ensures .0)) (l .stable-history .ensures .1) in
+    let e = l .stable-history .ensures in
+    let k = counted _ _ _ (l .before .before .if1 .left) listingNumber listingWord (l .stable-history .result) (sym (e .0)) (e .1) in
     (p .0 ∙ k .0, (k .1 .0, p .1 ∙ k .1 .1))
 
 pub penkwadar-stable-history-spec : {M : Type 1} → statement M

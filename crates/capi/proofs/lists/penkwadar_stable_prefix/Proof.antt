@@ -28,7 +28,8 @@ unfolding prefixAnswer prefixAfter prefixCountAfter
 returns-2 c =
     let l = c .before .before .before .before .before .before in
     let p = c .before .before .put-listing .ensures in
-    let k = counted _ _ _ (l .before .before .if1 .left) listingNumber listingWord (l .stable-prefix .result) (sym (l .stable-prefix .ensures .0)) (l .stable-prefix .ensures .1) in
+    let e = l .stable-prefix .ensures in
+    let k = counted _ _ _ (l .before .before .if1 .left) listingNumber listingWord (l .stable-prefix .result) (sym (e .0)) (e .1) in
     (p .0 ∙ k .0, (k .1 .0, p .1 ∙ k .1 .1))
 
 pub penkwadar-stable-prefix-spec : {M : Type 1} → statement M

@@ -65,8 +65,8 @@ sub-find : tie.Need-sub-find
 sub-find c =
     let m = c .before .before .before in
     let a = m .before .before .before .before .args in
-    let r = named (m .before .before .shard-count .result) (a .shard) (a .index) (a .host) (sym (m .is-seat-name .ensures) ∙ not-false _ (c .before .before .if2 .left)) in
-    omega (arith, r .least)
+    let is-named = sym (m .is-seat-name .ensures) ∙ not-false _ (c .before .before .if2 .left) in
+    omega (arith, named (m .before .before .shard-count .result) (a .shard) (a .index) (a .host) is-named .least)
 
 find-requires : tie.Need-find-requires
 find-requires c κs =
