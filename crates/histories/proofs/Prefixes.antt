@@ -1,9 +1,11 @@
 -- The ladder of a replica's stable prefix: what is answered and left where the replica is not found, and where it is.
-use Prim.Native.Nat.{ℕ}
+use Prim.Native.Nat.{ℕ, _-_}
 use mathlib.Core.Path.{_≡_, refl, sym, ap, _∙_}
 use mathlib.Core.List.{List, [], _∷_}
 use Rattle.model.specs.Checks.{firstOf}
-use Rattle.model.specs.Configuration.{replicaOf}
+use Rattle.model.specs.Replicas.{stablePrefix}
+use Rattle.model.specs.Layout.{replicaAt}
+use Rattle.model.specs.Configuration.{configuration, replicaPlace, replicaOf}
 use Rattle.model.specs.OneList.{stableOf}
 use Rattle.model.proofs.Checks.{passed, first-before, first-after}
 use Rattle.lookup.specs.declared.Seat.{Seat}
@@ -14,7 +16,7 @@ use Rattle.histories.specs.Seats.{seatChecks, seatNamed}
 use Rattle.histories.specs.Prefix.{shown, prefixRejection, prefixListing, afterPrefix}
 use Rattle.histories.proofs.Stable.{Settled, host-settled}
 use Rattle.histories.proofs.Listings.{rejects}
-use Rattle.histories.proofs.Seats.{found}
+use Rattle.histories.proofs.Seats.{Found, found}
 
 module _ (w : List ℕ) (z i h : ℕ) (out : List ℕ) {r : Seat} (e : r ≡ seatNamed w z i h) where
   answer-is : r .answer ≡ firstOf (seatChecks w z i h)
@@ -28,19 +30,21 @@ module _ (w : List ℕ) (z i h : ℕ) (out : List ℕ) {r : Seat} (e : r ≡ sea
       (first-before (seatChecks w z i h) (hasRoom (shown w z i h) out ∷ []) (λ q. n (answer-is ∙ q)) ∙ sym answer-is)
 
   module _ (q : r .answer ≡ 0) where
+    at-host : Found w z i h
+    at-host = found w z i h (sym (ap (λ (s : Seat). s .answer) e) ∙ q)
+
+    place-is : r .place ≡ replicaPlace (configuration w z (i - 1)) h
+    place-is = ap (λ (s : Seat). s .place) e ∙ at-host .place-is
+
     settled : Settled w (r .place)
-    settled =
-        let f = found w z i h (sym (ap (λ (s : Seat). s .answer) e) ∙ q) in
-        rw (ap (λ (s : Seat). s .place) e ∙ f .place-is) (host-settled (f .ready) h (f .member))
+    settled = rw place-is (host-settled (at-host .ready) h (at-host .member))
 
     pub placed : HasEntries w (r .place)
     placed = settled .has
 
     shown-is : entriesAt w (r .place) ≡ shown w z i h
     unfolding shown stableOf replicaOf
-    shown-is =
-        let f = found w z i h (sym (ap (λ (s : Seat). s .answer) e) ∙ q) in
-        rw (ap (λ (s : Seat). s .place) e ∙ f .place-is) (sym (host-settled (f .ready) h (f .member) .entries))
+    shown-is = sym (settled .entries) ∙ ap (λ (p : ℕ). stablePrefix (replicaAt w p)) place-is
 
     room-left : prefixRejection w z i h out ≡ firstOf (hasRoom (shown w z i h) out ∷ [])
     unfolding prefixRejection seatChecks

@@ -1,21 +1,27 @@
--- The buyer's question as one claim: what two hosts of a shard show, at any two moments of a run, is one list. It is proved in `proofs/Shown.antt`
--- (`shown-share`).
+-- The buyer's question as one claim: what reading a host returns, at any two moments of a run and for any two hosts of a shard, is one list. It is
+-- proved in `proofs/Shown.antt` (`shown-share`).
 use Prim.Native.Nat.{ℕ}
 use mathlib.Core.Path.{_≡_}
 use mathlib.Core.List.{List}
+use lib.ListN.{take}
 use Rattle.model.specs.Setup.{setupRejection, afterSetup}
 use Rattle.model.specs.Prefixes.{Share}
 use Rattle.model.specs.Runs.{Call, Moment, played, stateAt}
-use Rattle.histories.specs.Prefix.{shown, prefixRejection}
+use Rattle.histories.specs.Listing.{listingCount}
+use Rattle.histories.specs.Prefix.{shown, prefixRejection, prefixListing, afterPrefix}
 
--- w is the state after setup, ms every step tried since. Host g is read in index i at moment m and host h in index j at moment n; both calls are
--- accepted, whatever their outputs
+-- what a caller of `stable_prefix` has in its output: as many first entries as the call answers, none where it is rejected
+unfoldable pub returned : List ℕ → ℕ → ℕ → ℕ → List ℕ → List ℕ
+returned w z i h out = take (listingCount (prefixListing w z i h out)) (afterPrefix w z i h out)
+
+-- w is the state after setup, ms every step tried since. Host g is read in index i at moment m, and host h in index j at moment n, whatever the
+-- outputs were
 unfoldable pub ShownShare : List ℕ → List Moment → Type 0
 ShownShare w ms =
-    (z i g m j h n : ℕ) (out out′ : List ℕ) → prefixRejection (stateAt w ms m) z i g out ≡ 0 → prefixRejection (stateAt w ms n) z j h out′ ≡ 0
-    → Share (shown (stateAt w ms m) z i g) (shown (stateAt w ms n) z j h)
+    (z i g m j h n : ℕ) (out out′ : List ℕ) → Share (returned (stateAt w ms m) z i g out) (returned (stateAt w ms n) z j h out′)
 
--- for every borrowed state and plan that setup accepts, and every list of calls
-unfoldable pub ShownClaim : Type 0
-ShownClaim =
-    (w p : List ℕ) → setupRejection w p ≡ 0 → (calls : List Call) → ShownShare (afterSetup w p) (played (afterSetup w p) calls)
+pub record ShownClaim : Type 0 where
+  -- an accepted call returns the host's stable prefix
+  pub accepted : (w : List ℕ) (z i h : ℕ) (out : List ℕ) → prefixRejection w z i h out ≡ 0 → returned w z i h out ≡ shown w z i h
+  -- for every borrowed state and plan that setup accepts, and every list of calls
+  pub share : (w p : List ℕ) → setupRejection w p ≡ 0 → (calls : List Call) → ShownShare (afterSetup w p) (played (afterSetup w p) calls)
