@@ -1,16 +1,36 @@
 -- A replay's answer, state and report: with too short an output, and from what `replay::replay` returns and leaves.
 -- Assumes nothing.
 use Prim.Native.Nat.{ℕ, _≤_, _<_}
-use mathlib.Core.Path.{_≡_}
+use mathlib.Core.Path.{_≡_, refl, sym, ap, _∙_}
+use mathlib.Core.Bool.{Bool, true, false}
 use mathlib.Core.List.{List, [], _∷_}
+use lib.Dec.{eqb}
 use lib.ListN.{length}
 use lib.Seq.{sets}
 use borrow.Author.Tests.{le-leb, lt-leb}
 use Rattle.model.specs.declared.Report.{Report}
 use Rattle.model.specs.declared.Stop.{Stop}
-use Rattle.model.specs.Replay.{report, afterReplay}
-use Rattle.model.specs.Results.{stopNumber}
-use Rattle.capi.specs.Replays.{stopWords, reportWords, replayAnswer, stateAfter, reportAfter}
+use Rattle.model.specs.declared.Stop.the-variants.{Ended, Spent, Damaged, Rejected}
+use Rattle.model.specs.Log.{readLog}
+use Rattle.model.specs.Replay.{replayRejection, report}
+use Rattle.model.specs.Results.{stopNumber, stopCode}
+use Rattle.replay.proofs.Whole.{Reports}
+use Rattle.transcript.proofs.LogSizes.{LogStop, log-sized}
+use Rattle.capi.specs.Replays.{reportWords, replayAnswer, stateAfter, reportAfter}
+
+-- a replay was made, however it stopped
+unfoldable pub wasMade : Stop → Bool
+wasMade Ended = true
+wasMade Spent = true
+wasMade (Damaged r) = true
+wasMade (Rejected r) = false
+
+log-made : (s : Stop) → LogStop s → wasMade s ≡ true
+unfolding wasMade
+log-made Ended g = refl
+log-made Spent g = refl
+log-made (Damaged r) g = refl
+log-made (Rejected r) g = absurd g
 
 module _ (w log : List ℕ) (budget : ℕ) (out : List ℕ) where
   pub short : length out < 4
@@ -18,9 +38,35 @@ module _ (w log : List ℕ) (budget : ℕ) (out : List ℕ) where
   unfolding replayAnswer stateAfter reportAfter
   short h = (rw (lt-leb _ _ h), (rw (lt-leb _ _ h), rw (lt-leb _ _ h)))
 
-  pub stopped : 4 ≤ length out → (x : Report) → x ≡ report w log budget → (stop : Stop) → x .stop ≡ stop
-      → {state words : List ℕ} → state ≡ afterReplay w log budget → words ≡ sets out 0 (stopWords stop (x .tried ∷ x .rejected ∷ x .bytes ∷ []))
-      → (stopNumber stop ≡ replayAnswer w log budget out)
-      × ((state ≡ stateAfter w log budget out) × (words ≡ reportAfter w log budget out))
-  unfolding replayAnswer stateAfter reportAfter reportWords
-  stopped h x e stop s q p = (rw (le-leb _ _ h, ← e, s), (rw (le-leb _ _ h) q, rw (le-leb _ _ h, ← e, s) p))
+  -- the report x, and the state that is left
+  module _ (h : 4 ≤ length out) {x : Report} {v : List ℕ} (e : Reports w log budget x v) {s : Stop} (p : x .stop ≡ s) where
+    made : eqb (replayRejection w) 0 ≡ wasMade s
+    unfolding report wasMade
+    made = go (eqb (replayRejection w) 0) refl
+      where
+        stop-is : report w log budget .stop ≡ s
+        stop-is = sym (ap (λ (y : Report). y .stop) (e .1 .1 .1 .1 .1 .0)) ∙ p
+
+        go : (t : Bool) → eqb (replayRejection w) 0 ≡ t → t ≡ wasMade s
+        go true q = sym (ap wasMade (sym (rw q at stop-is)) ∙ log-made (readLog budget log .stop) (log-sized budget log .stop))
+        go false q = ap wasMade (rw q at stop-is)
+
+    answer-is : stopNumber s ≡ replayAnswer w log budget out
+    unfolding replayAnswer
+    answer-is = rw (le-leb _ _ h, ← p) (e .0)
+
+    state-is : v ≡ stateAfter w log budget out
+    unfolding stateAfter
+    state-is = rw (le-leb _ _ h) (e .1 .1 .1 .1 .1 .1)
+
+    pub reported : wasMade s ≡ true → {words : List ℕ} → words ≡ sets out 0 (stopCode s ∷ x .tried ∷ x .rejected ∷ x .bytes ∷ [])
+        → (stopNumber s ≡ replayAnswer w log budget out) × ((v ≡ stateAfter w log budget out) × (words ≡ reportAfter w log budget out))
+    unfolding reportAfter reportWords
+    reported m q =
+        let counts = rw (← p, e .1 .0, e .1 .1 .0, e .1 .1 .1 .0, e .1 .1 .1 .1 .0) at q in
+        (answer-is, (state-is, rw (le-leb _ _ h, made, m) counts))
+
+    pub not-made : wasMade s ≡ false
+        → (stopNumber s ≡ replayAnswer w log budget out) × ((v ≡ stateAfter w log budget out) × (out ≡ reportAfter w log budget out))
+    unfolding reportAfter
+    not-made m = (answer-is, (state-is, rw (le-leb _ _ h, made, m)))

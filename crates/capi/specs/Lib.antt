@@ -2,6 +2,7 @@
 pub mod State
 pub mod Replays
 pub mod Counts
+pub mod Words
 pub mod Steps
 pub mod Lists
 pub mod Transcripts

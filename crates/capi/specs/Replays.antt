@@ -1,32 +1,28 @@
 -- Replay with an output for its report. Where the output has no room for four words, the answer is 8 and nothing is tried.
 use Prim.Native.Nat.{ℕ}
-use mathlib.Core.Bool.{cond}
+use mathlib.Core.Bool.{cond, _&&_}
 use mathlib.Core.List.{List, [], _∷_}
-use lib.Dec.{leb}
+use lib.Dec.{leb, eqb}
 use lib.ListN.{length}
 use lib.Seq.{sets}
-use Rattle.model.specs.declared.Report.{Report}
-use Rattle.model.specs.declared.Stop.{Stop}
-use Rattle.model.specs.declared.Stop.the-variants.{Ended, Spent, Damaged, Rejected}
-use Rattle.model.specs.Replay.{report, afterReplay}
-use Rattle.model.specs.Results.{stopNumber}
+use Rattle.model.specs.Replay.{rejectedIn, replayRejection, replayed, afterReplay}
+use Rattle.model.specs.Results.{replayNumber, replayCode, replayBytes}
 
--- the words of a report: how the replay stopped, then its counts; none where it is rejected
-unfoldable pub stopWords : Stop → List ℕ → List ℕ
-stopWords Ended counts = 0 ∷ counts
-stopWords Spent counts = 1 ∷ counts
-stopWords (Damaged r) counts = 2 ∷ counts
-stopWords (Rejected r) counts = []
+-- the four words of a report: how the replay stopped, steps tried, steps rejected, bytes
+unfoldable pub reportWords : List ℕ → List ℕ → ℕ → List ℕ
+reportWords w log budget =
+    replayCode w log budget
+    ∷ length (replayed w log budget)
+    ∷ rejectedIn w (replayed w log budget)
+    ∷ replayBytes w log budget
+    ∷ []
 
-unfoldable pub reportWords : Report → List ℕ
-reportWords x = stopWords (x .stop) (x .tried ∷ x .rejected ∷ x .bytes ∷ [])
-
--- the answer, and what is left of the state and of the output
+-- the answer, and what is left of the state and of the output: a report is written where a replay was made
 unfoldable pub replayAnswer : List ℕ → List ℕ → ℕ → List ℕ → ℕ
-replayAnswer w log budget out = cond (leb 4 (length out)) (stopNumber (report w log budget .stop)) 8
+replayAnswer w log budget out = cond (leb 4 (length out)) (replayNumber w log budget) 8
 
 unfoldable pub stateAfter : List ℕ → List ℕ → ℕ → List ℕ → List ℕ
 stateAfter w log budget out = cond (leb 4 (length out)) (afterReplay w log budget) w
 
 unfoldable pub reportAfter : List ℕ → List ℕ → ℕ → List ℕ → List ℕ
-reportAfter w log budget out = cond (leb 4 (length out)) (sets out 0 (reportWords (report w log budget))) out
+reportAfter w log budget out = cond (leb 4 (length out) && eqb (replayRejection w) 0) (sets out 0 (reportWords w log budget)) out

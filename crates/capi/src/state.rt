@@ -1,4 +1,5 @@
 // A state's length, its setup, and one step on it.
+use model::layout::SHARD_WORDS;
 use model::step::Step;
 ghost use mathlib.Core.Path.{_≡_};
 ghost use mathlib.Core.List.{[], _∷_};
@@ -18,7 +19,7 @@ pub extern "C" fn penkwadar_state_words(zones: u64) -> u64
     if 8 < zones {
         return 0;
     }
-    2112 * zones
+    SHARD_WORDS as u64 * zones
 }
 
 // Setup: 0 and the whole state written, or the rejection and the state as it was.
@@ -27,7 +28,7 @@ pub extern "C" fn penkwadar_setup(state: &mut [u64], plan: &[u64]) -> u64
     ensures { λ r. ⌜ r ≡ setupRejection (now (state .entry)) (now (plan .entry)) ⌝ }
     ensures { λ _. ⌜ now (state .exit) ≡ afterSetup (now (state .entry)) (now (plan .entry)) ⌝ }
 {
-    machine::setup(state, plan)
+    setup::setup(state, plan)
 }
 
 // A step: 0 and its effect, or the rejection and the state as it was.

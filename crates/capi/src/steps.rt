@@ -1,7 +1,7 @@
 // One step from bytes and to bytes.
 use crate::words::put_step;
+use crate::words::put_writing;
 use model::Reading;
-use model::Writing;
 use model::step::Step;
 ghost use mathlib.Core.Path.{_≡_};
 ghost use mathlib.Core.List.{[], _∷_};
@@ -53,11 +53,6 @@ pub extern "C" fn penkwadar_write_step(
     if count.len() < 1 {
         return 8;
     }
-    match log::writer::write_step(out, at, Step { kind, a, b, c, d }) {
-        Writing::Bytes(n) => {
-            count[0] = n as u64;
-            0
-        }
-        Writing::Rejected(r) => r,
-    }
+    let writing = log::writer::write_step(out, at, Step { kind, a, b, c, d });
+    put_writing(count, writing)
 }

@@ -1,5 +1,5 @@
 // The program's text for a log.
-use model::Writing;
+use crate::words::put_writing;
 ghost use mathlib.Core.Path.{_≡_};
 ghost use Rattle.capi.specs.Transcripts.{textAnswer, textAfter, lengthAfter};
 
@@ -13,11 +13,6 @@ pub extern "C" fn penkwadar_transcript(log: &[u8], out: &mut [u8], count: &mut [
     if count.len() < 1 {
         return 8;
     }
-    match transcript::transcript(log, out) {
-        Writing::Bytes(n) => {
-            count[0] = n as u64;
-            0
-        }
-        Writing::Rejected(r) => r,
-    }
+    let writing = transcript::transcript(log, out);
+    put_writing(count, writing)
 }

@@ -1,12 +1,14 @@
 // Words at the start of an output.
 use histories::Listing;
+use model::Writing;
 ghost use mathlib.Core.Path.{_≡_};
 ghost use mathlib.Core.List.{[], _∷_};
 ghost use Prim.Native.Nat.{_≤_};
 ghost use lib.ListN.{length};
 ghost use lib.Seq.{sets};
+ghost use Rattle.model.specs.Results.{writingNumber};
 ghost use Rattle.histories.specs.Listing.{listingNumber};
-ghost use Rattle.capi.specs.Lists.{listingWord};
+ghost use Rattle.capi.specs.Words.{writingWord, listingWord};
 
 // The four words of a report.
 pub fn put_report(out: &mut [u64], stop: u64, tried: u64, rejected: u64, bytes: u64)
@@ -32,10 +34,26 @@ pub fn put_step(out: &mut [u64], kind: u64, a: u64, b: u64, c: u64, d: u64, next
     out[5] = next;
 }
 
-// The count of a list that was copied, and 0; or the rejection, and no word.
+// The count of the bytes that were written, and 0; or the rejection, and no word.
+pub fn put_writing(out: &mut [u64], writing: Writing) -> u64
+    requires { ⌜ 1 ≤ length (now out) ⌝ }
+    ensures { λ r. ⌜ r ≡ writingNumber writing ⌝ }
+    ensures { λ _. ⌜ now (out .exit) ≡ sets (now (out .entry)) 0 (writingWord writing) ⌝ }
+{
+    match writing {
+        Writing::Bytes(n) => {
+            out[0] = n as u64;
+            0
+        }
+        Writing::Rejected(r) => r,
+    }
+}
+
+// The same of a list that was copied.
 pub fn put_listing(out: &mut [u64], listing: Listing) -> u64
     requires { ⌜ 1 ≤ length (now out) ⌝ }
-    ensures { λ r. ⌜ (r ≡ listingNumber listing) × (now (out .exit) ≡ sets (now (out .entry)) 0 (listingWord listing)) ⌝ }
+    ensures { λ r. ⌜ r ≡ listingNumber listing ⌝ }
+    ensures { λ _. ⌜ now (out .exit) ≡ sets (now (out .entry)) 0 (listingWord listing) ⌝ }
 {
     match listing {
         Listing::Entries(n) => {

@@ -9,25 +9,39 @@ use borrow.Author.Tests.{le-leb, lt-ltb, le-ltb}
 use Rattle.model.specs.Checks.{firstOf}
 use Rattle.model.specs.Layout.{shardsOf, isStateLength}
 use Rattle.model.specs.WellFormed.{wellFormed}
-use Rattle.lookup.proofs.Formed.{several, formed-of}
+use Rattle.model.proofs.Lengths.{several}
+use Rattle.lookup.proofs.Formed.{formed-of}
+use Rattle.model.specs.StableHistory.{stableHistory}
+use Rattle.histories.specs.declared.Listing.{Listing}
 use Rattle.histories.specs.declared.Listing.the-variants.{Rejected}
+use Rattle.histories.specs.Listing.{listingNumber, listingCount}
 use Rattle.histories.specs.Entries.{HasEntries, copying, afterCopying}
-use Rattle.histories.specs.History.{listingRejection, listing, afterListing, longestPlace, OfShard}
+use Rattle.histories.specs.History.{listingRejection, listedCount, listing, afterListing, longestPlace, OfShard}
 use Rattle.histories.proofs.Longest.{longest}
-use Rattle.histories.proofs.Listings.{rejects}
+use Rattle.histories.proofs.Listings.{rejects, told}
 
 -- a shard of a state that passed the tests
 pub of-shard : (w : List ℕ) (z : ℕ) → (shardsOf (length w) ≡ 0 → ⊥) → z < shardsOf (length w) → wellFormed w ≡ true → OfShard w z
 of-shard w z n h f = record { formed = formed-of w n f; shard = h }
 
 module _ (w : List ℕ) (z : ℕ) (out : List ℕ) where
+  -- what is answered and left, in numbers and as a value
+  abbrev Answers : Listing → List ℕ → Type 0
+  Answers r v =
+      (listingNumber r ≡ listingRejection w z out)
+      × ((listingCount r ≡ listedCount w z out) × ((r ≡ listing w z out) × (v ≡ afterListing w z out)))
+
+  pub answers : {r : Listing} {v : List ℕ} → r ≡ listing w z out → v ≡ afterListing w z out → Answers r v
+  unfolding listing afterListing listedCount
+  answers e f = told (listingRejection w z out) (stableHistory w z) out e f
+
   -- a rejection leaves the output
   abbrev Rejects : ℕ → Type 0
-  Rejects k = (Rejected k ≡ listing w z out) × (out ≡ afterListing w z out)
+  Rejects k = Answers (Rejected k) out
 
   rejects-as : (k : ℕ) → (k ≡ 0 → ⊥) → listingRejection w z out ≡ k → Rejects k
   unfolding listing afterListing
-  rejects-as k n e = rejects k _ out n e
+  rejects-as k n e = let r = rejects k (stableHistory w z) out n e in answers (r .0) (r .1)
 
   pub rejects-length : shardsOf (length w) ≡ 0 → Rejects 1
   unfolding listingRejection firstOf isStateLength

@@ -9,25 +9,38 @@ use Rattle.model.specs.Configuration.{configuration, replicaPlace, replicaOf}
 use Rattle.model.specs.OneList.{stableOf}
 use Rattle.model.proofs.Checks.{passed, first-before, first-after}
 use Rattle.lookup.specs.declared.Seat.{Seat}
+use Rattle.histories.specs.declared.Listing.{Listing}
 use Rattle.histories.specs.declared.Listing.the-variants.{Rejected}
-use Rattle.histories.specs.Listing.{hasRoom}
+use Rattle.histories.specs.Listing.{hasRoom, listingNumber, listingCount}
 use Rattle.histories.specs.Entries.{entriesAt, HasEntries, copying, afterCopying}
 use Rattle.histories.specs.Seats.{seatChecks, seatNamed}
-use Rattle.histories.specs.Prefix.{shown, prefixRejection, prefixListing, afterPrefix}
+use Rattle.histories.specs.Prefix.{shown, prefixRejection, prefixCount, prefixListing, afterPrefix}
 use Rattle.histories.proofs.Stable.{Settled, host-settled}
-use Rattle.histories.proofs.Listings.{rejects}
+use Rattle.histories.proofs.Listings.{rejects, told}
 use Rattle.histories.proofs.Seats.{Found, found}
+
+-- what is answered and left, in numbers and as a value
+abbrev Answers : List ℕ → ℕ → ℕ → ℕ → List ℕ → Listing → List ℕ → Type 0
+Answers w z i h out r v =
+    (listingNumber r ≡ prefixRejection w z i h out)
+    × ((listingCount r ≡ prefixCount w z i h out) × ((r ≡ prefixListing w z i h out) × (v ≡ afterPrefix w z i h out)))
+
+pub answers : (w : List ℕ) (z i h : ℕ) (out : List ℕ) {r : Listing} {v : List ℕ} → r ≡ prefixListing w z i h out → v ≡ afterPrefix w z i h out
+    → Answers w z i h out r v
+unfolding prefixListing afterPrefix prefixCount
+answers w z i h out e f = told (prefixRejection w z i h out) (shown w z i h) out e f
 
 module _ (w : List ℕ) (z i h : ℕ) (out : List ℕ) {r : Seat} (e : r ≡ seatNamed w z i h) where
   answer-is : r .answer ≡ firstOf (seatChecks w z i h)
   unfolding seatNamed
   answer-is = ap (λ (s : Seat). s .answer) e
 
-  pub rejects-seat : (r .answer ≡ 0 → ⊥) → (Rejected (r .answer) ≡ prefixListing w z i h out) × (out ≡ afterPrefix w z i h out)
+  pub rejects-seat : (r .answer ≡ 0 → ⊥) → Answers w z i h out (Rejected (r .answer)) out
   unfolding prefixListing afterPrefix prefixRejection
   rejects-seat n =
-      rejects (r .answer) (shown w z i h) out n
-      (first-before (seatChecks w z i h) (hasRoom (shown w z i h) out ∷ []) (λ q. n (answer-is ∙ q)) ∙ sym answer-is)
+      let q = first-before (seatChecks w z i h) (hasRoom (shown w z i h) out ∷ []) (λ m. n (answer-is ∙ m)) ∙ sym answer-is in
+      let p = rejects (r .answer) (shown w z i h) out n q in
+      answers w z i h out (p .0) (p .1)
 
   module _ (q : r .answer ≡ 0) where
     at-host : Found w z i h

@@ -14,10 +14,12 @@ use Rattle.model.specs.Configuration.{configuration, replicaPlace}
 use Rattle.model.specs.WellFormed.{wellFormed}
 use Rattle.model.proofs.Tests.{all-pass}
 use Rattle.model.proofs.Checks.{passed}
+use Rattle.model.proofs.Lengths.{several}
 use Rattle.lookup.specs.declared.Seat.{Seat}
 use Rattle.lookup.specs.Ready.{Ready, ReadyHost}
 use Rattle.lookup.specs.Seats.{seatOf}
-use Rattle.lookup.proofs.Formed.{several, formed-of}
+use Rattle.arguments.specs.Numbers.{isIndexOf}
+use Rattle.lookup.proofs.Formed.{formed-of}
 use Rattle.histories.specs.Seats.{isSeatName, seatChecks, seatNamed}
 
 -- a shard, an index and a host that are in range
@@ -28,7 +30,7 @@ pub record Named (Z z i h : ℕ) : Type 0 where
   pub host : h < 16
 
 pub named : (Z z i h : ℕ) → isSeatName Z z i h ≡ true → Named Z z i h
-unfolding isSeatName isHost
+unfolding isSeatName isIndexOf isHost
 named Z z i h e =
     let p = all-pass (ltb z Z) (leb 1 i ∷ leb i 8 ∷ ltb h 16 ∷ []) e in
     record {

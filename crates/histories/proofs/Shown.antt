@@ -16,9 +16,10 @@ use Rattle.model.specs.OneList.{shards, Seated, OneListClaim}
 use Rattle.model.proofs.Prefixes.{begins-nil}
 use Rattle.model.proofs.Checks.{passed}
 use Rattle.model.proofs.OneList.{one-list}
-use Rattle.histories.specs.Listing.{hasRoom, listingOf, afterListingOf, listingCount}
+use Rattle.model.specs.Results.{countBeside}
+use Rattle.histories.specs.Listing.{hasRoom, afterListingOf}
 use Rattle.histories.specs.Seats.{seatChecks}
-use Rattle.histories.specs.Prefix.{shown, prefixRejection, prefixListing, afterPrefix}
+use Rattle.histories.specs.Prefix.{shown, prefixRejection, prefixCount, afterPrefix}
 use Rattle.histories.specs.Shown.{returned, ShownShare, ShownClaim}
 use Rattle.histories.proofs.Seats.{named}
 
@@ -35,11 +36,11 @@ seated w z i h out e =
 -- ---- what a call returns
 
 returned-accepted : (w : List ℕ) (z i h : ℕ) (out : List ℕ) → prefixRejection w z i h out ≡ 0 → returned w z i h out ≡ shown w z i h
-unfolding returned prefixListing afterPrefix listingOf afterListingOf listingCount
+unfolding returned prefixCount afterPrefix afterListingOf countBeside
 returned-accepted w z i h out e = rw e (take-append-seam (shown w z i h) (drop (length (shown w z i h)) out))
 
 returned-rejected : (w : List ℕ) (z i h : ℕ) (out : List ℕ) → eqb (prefixRejection w z i h out) 0 ≡ false → returned w z i h out ≡ []
-unfolding returned prefixListing listingOf listingCount
+unfolding returned prefixCount countBeside
 returned-rejected w z i h out e = rw e
 
 -- nothing, or what a host with a replica shows

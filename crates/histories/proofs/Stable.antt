@@ -2,22 +2,22 @@
 use Prim.Native.Nat.{ℕ, _+_, _-_, _/_, _%_, _≤_, _<_}
 use native.Mathlib.Nat.{add-sub-cancel-left}
 use native.Mathlib.Omega.{arith}
-use mathlib.Core.Path.{_≡_, sym, ap, _∙_}
+use mathlib.Core.Path.{_≡_, ap, _∙_}
 use mathlib.Core.Bool.{Bool, true, false}
 use mathlib.Core.List.{List}
 use lib.Dec.{ltb}
 use lib.ListN.{length, getD, take, drop, length-take, length-drop}
-use lib.Seq.{take-take, take-add, drop-drop, drop-at, length-take-le}
+use lib.Seq.{take-take}
 use Rattle.model.specs.Members.{size, hasMember}
-use Rattle.model.specs.Replicas.{readReplica, replicaWords, stablePrefix}
-use Rattle.model.specs.Layout.{shardsOf, place, members, part, replicaAt}
+use Rattle.model.specs.Replicas.{mostEntries, readReplica, replicaWords, stablePrefix}
+use Rattle.model.specs.Layout.{partWords, shardsOf, place, members, part, replicaAt}
 use Rattle.model.specs.Configuration.{configuration, replicaPlace}
 use Rattle.model.specs.WellFormed.{isPart}
-use Rattle.model.proofs.Parts.{short}
 use Rattle.model.proofs.Places.{replica-place, place-fits}
 use Rattle.model.proofs.SeatedReplica.{number-small}
 use Rattle.model.proofs.WellFormedParts.{part-is-words, part-proper, part-vacant}
-use Rattle.lookup.proofs.Fields.{part-word, stable-word, formed}
+use Rattle.lookup.proofs.Fields.{stable-word, formed}
+use Rattle.lookup.proofs.Words.{length-word, length-few, history-words}
 use Rattle.lookup.specs.Ready.{Formed, Ready}
 use Rattle.histories.specs.Entries.{entriesAt, HasEntries}
 use Rattle.histories.specs.History.{OfShard}
@@ -28,44 +28,26 @@ pub record Settled (w : List ℕ) (at : ℕ) : Type 0 where
   pub entries : stablePrefix (replicaAt w at) ≡ entriesAt w at
   pub count : length (stablePrefix (replicaAt w at)) ≡ getD w (at + 2) 0
 
--- what lies behind the first words of a longer start of a list
-drop-take : (m n : ℕ) (l : List ℕ) → m ≤ length l → drop m (take (m + n) l) ≡ take n (drop m l)
-drop-take m n l h = rw (take-add m n l) (drop-at (take m l) (take n (drop m l)) m (length-take-le m l h))
-
 -- the part of the state that holds a stable prefix
 pub entries-part : (w : List ℕ) (p : ℕ) → take (p + 8 + getD w (p + 2) 0 - (p + 8)) (drop (p + 8) w) ≡ entriesAt w p
 unfolding entriesAt
 entries-part w p = rw (add-sub-cancel-left (p + 8) (getD w (p + 2) 0))
 
-module _ (w : List ℕ) (at : ℕ) (fits : at + 64 ≤ length w) where
-  entries-of : drop 8 (part w at) ≡ take 56 (drop (at + 8) w)
-  unfolding part
-  entries-of = drop-take 8 56 (drop at w) (simp length-drop (omega arith)) ∙ ap (take 56) (drop-drop 8 at w)
-
-  -- the words of a replica tell how long its history is
-  history-word : part w at ≡ replicaWords (replicaAt w at) → length (replicaAt w at .history) ≡ getD w (at + 1) 0
-  unfolding replicaWords
-  history-word e = sym (sym (part-word w at 1 (omega arith)) ∙ ap (λ (p : List ℕ). getD p 1 0) e)
-
-  stable-entries : getD w (at + 2) 0 ≤ getD w (at + 1) 0 → getD w (at + 1) 0 ≤ 56 → stablePrefix (replicaAt w at) ≡ entriesAt w at
-  unfolding stablePrefix replicaAt readReplica entriesAt
-  stable-entries h k =
-      rw (part-word w at 1 (omega arith), part-word w at 2 (omega arith), entries-of)
-      (take-take (getD w (at + 2) 0) (getD w (at + 1) 0) (take 56 (drop (at + 8) w)) h
-      ∙ take-take (getD w (at + 2) 0) 56 (drop (at + 8) w) (omega arith))
-
+module _ (w : List ℕ) (at : ℕ) (fits : at + partWords ≤ length w) where
   -- as many entries as the stable length says
   pub entries-length : getD w (at + 2) 0 ≤ 56 → length (entriesAt w at) ≡ getD w (at + 2) 0
   unfolding entriesAt
   entries-length h = simp (length-take, length-drop) (omega arith)
 
   settled : part w at ≡ replicaWords (replicaAt w at) → replicaAt w at .stable ≤ length (replicaAt w at .history) → Settled w at
+  unfolding stablePrefix entriesAt
   settled e h =
-      let l = history-word e in
-      let m : getD w (at + 2) 0 ≤ getD w (at + 1) 0 = omega (arith, stable-word w at) in
-      let f : getD w (at + 1) 0 ≤ 56 = omega (arith, short w at) in
-      let p = stable-entries m f in
-      record { has = record { fits = fits; few = omega arith }; entries = p; count = ap length p ∙ entries-length (omega arith) }
+      let l = getD w (at + 1) 0 in
+      let m : getD w (at + 2) 0 ≤ l = omega (arith, stable-word w at, length-word w at e) in
+      let few : getD w (at + 2) 0 ≤ mostEntries = omega (arith, length-few w at e) in
+      let p : stablePrefix (replicaAt w at) ≡ entriesAt w at =
+      rw (stable-word w at, history-words w at e) (take-take (getD w (at + 2) 0) l (drop (at + 8) w) m) in
+      record { has = record { fits = fits; few = few }; entries = p; count = ap length p ∙ entries-length few }
 
 -- a part of a well-formed state, of a member or not
 stable-small : (Z j : ℕ) (b : Bool) (p : List ℕ) → isPart Z j b p ≡ true → readReplica p .stable ≤ length (readReplica p .history)

@@ -3,6 +3,8 @@ use Prim.Native.Nat.{ℕ, _+_, _≤_}
 use mathlib.Core.List.{List, [], _∷_}
 use lib.ListN.{length, getD, take, drop}
 use Rattle.model.specs.Checks.{firstOf}
+use Rattle.model.specs.Replicas.{mostEntries}
+use Rattle.model.specs.Layout.{partWords}
 use Rattle.histories.specs.declared.Listing.{Listing}
 use Rattle.histories.specs.Listing.{hasRoom, listingOf, afterListingOf}
 
@@ -12,8 +14,8 @@ entriesAt w at = take (getD w (at + 2) 0) (drop (at + 8) w)
 
 -- the 64 words of a replica are in the state, and its stable length is that of a history
 pub record HasEntries (w : List ℕ) (at : ℕ) : Type 0 where
-  pub fits : at + 64 ≤ length w
-  pub few : getD w (at + 2) 0 ≤ 56
+  pub fits : at + partWords ≤ length w
+  pub few : getD w (at + 2) 0 ≤ mostEntries
 
 -- what copying them to an output answers and leaves, rejection 8 being the only one
 unfoldable pub copying : List ℕ → ℕ → List ℕ → Listing

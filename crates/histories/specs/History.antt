@@ -8,6 +8,7 @@ use Rattle.model.specs.Checks.{firstOf, _orElse_}
 use Rattle.model.specs.Layout.{shardsOf, isStateLength, place}
 use Rattle.model.specs.WellFormed.{wellFormed}
 use Rattle.model.specs.StableHistory.{stableHistory}
+use Rattle.model.specs.Results.{countBeside}
 use Rattle.lookup.specs.Ready.{Formed}
 use Rattle.histories.specs.declared.Listing.{Listing}
 use Rattle.histories.specs.Listing.{hasRoom, listingOf, afterListingOf}
@@ -22,7 +23,11 @@ listingRejection w z out =
     ∷ hasRoom (stableHistory w z) out
     ∷ [])
 
--- how many entries the stable history has, or the rejection
+-- how many entries are copied, 0 at a rejection
+unfoldable pub listedCount : List ℕ → ℕ → List ℕ → ℕ
+listedCount w z out = countBeside (listingRejection w z out) (stableHistory w z)
+
+-- both as one answer
 unfoldable pub listing : List ℕ → ℕ → List ℕ → Listing
 listing w z out = listingOf (listingRejection w z out) (stableHistory w z)
 

@@ -3,6 +3,7 @@ use Prim.Native.Nat.{ℕ, _-_}
 use mathlib.Core.List.{List, [], _∷_, _++_}
 use Rattle.model.specs.Checks.{firstOf}
 use Rattle.model.specs.OneList.{stableOf}
+use Rattle.model.specs.Results.{countBeside}
 use Rattle.histories.specs.declared.Listing.{Listing}
 use Rattle.histories.specs.Listing.{hasRoom, listingOf, afterListingOf}
 use Rattle.histories.specs.Seats.{seatChecks}
@@ -15,7 +16,11 @@ shown w z i h = stableOf w z (i - 1) h
 unfoldable pub prefixRejection : List ℕ → ℕ → ℕ → ℕ → List ℕ → ℕ
 prefixRejection w z i h out = firstOf (seatChecks w z i h ++ (hasRoom (shown w z i h) out ∷ []))
 
--- how many entries the stable prefix has, or the rejection
+-- how many entries are copied, 0 at a rejection
+unfoldable pub prefixCount : List ℕ → ℕ → ℕ → ℕ → List ℕ → ℕ
+prefixCount w z i h out = countBeside (prefixRejection w z i h out) (shown w z i h)
+
+-- both as one answer
 unfoldable pub prefixListing : List ℕ → ℕ → ℕ → ℕ → List ℕ → Listing
 prefixListing w z i h out = listingOf (prefixRejection w z i h out) (shown w z i h)
 

@@ -2,18 +2,19 @@
 use Prim.Native.Nat.{ℕ, _-_}
 use mathlib.Core.Bool.{Bool, cond, _&&_}
 use mathlib.Core.List.{List, [], _∷_}
-use lib.Dec.{leb, ltb, eqb}
+use lib.Dec.{eqb}
 use lib.ListN.{length}
 use Rattle.model.specs.Checks.{Check, firstOf, _orElse_}
 use Rattle.model.specs.Members.{isHost, hasMember}
 use Rattle.model.specs.Layout.{shardsOf, isStateLength, isInstalled, members}
 use Rattle.model.specs.Configuration.{configuration, replicaPlace}
 use Rattle.model.specs.WellFormed.{wellFormed}
+use Rattle.arguments.specs.Numbers.{isIndexOf}
 use Rattle.lookup.specs.declared.Seat.{Seat}
 
 -- rejection 7: "zone not below Z, index not 1 to 8, a box above 15"
 unfoldable pub isSeatName : ℕ → ℕ → ℕ → ℕ → Bool
-isSeatName Z z i h = ltb z Z && leb 1 i && leb i 8 && isHost h
+isSeatName Z z i h = isIndexOf Z z i && isHost h
 
 -- in the order of a step's checks: 1, 7, 9, 10, 11
 unfoldable pub seatChecks : List ℕ → ℕ → ℕ → ℕ → List Check

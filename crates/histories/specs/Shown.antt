@@ -7,12 +7,11 @@ use lib.ListN.{take}
 use Rattle.model.specs.Setup.{setupRejection, afterSetup}
 use Rattle.model.specs.Prefixes.{Share}
 use Rattle.model.specs.Runs.{Call, Moment, played, stateAt}
-use Rattle.histories.specs.Listing.{listingCount}
-use Rattle.histories.specs.Prefix.{shown, prefixRejection, prefixListing, afterPrefix}
+use Rattle.histories.specs.Prefix.{shown, prefixRejection, prefixCount, afterPrefix}
 
 -- what a caller of `stable_prefix` has in its output: as many first entries as the call answers, none where it is rejected
 unfoldable pub returned : List ℕ → ℕ → ℕ → ℕ → List ℕ → List ℕ
-returned w z i h out = take (listingCount (prefixListing w z i h out)) (afterPrefix w z i h out)
+returned w z i h out = take (prefixCount w z i h out) (afterPrefix w z i h out)
 
 -- w is the state after setup, ms every step tried since. Host g is read in index i at moment m, and host h in index j at moment n, whatever the
 -- outputs were

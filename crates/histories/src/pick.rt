@@ -1,4 +1,8 @@
 // The pick of a shard's longest stable history.
+use model::layout::HEAD_WORDS;
+use model::layout::REPLICA_WORDS;
+use model::layout::SHARD_WORDS;
+use model::layout::STABLE;
 ghost use mathlib.Core.Path.{_≡_};
 ghost use Rattle.histories.specs.History.{longestPlace, OfShard};
 
@@ -7,13 +11,13 @@ pub fn longest(state: &[u64], shard: u64) -> usize
     requires { ⌜ OfShard (now state) shard ⌝ }
     ensures { λ r. ⌜ r ≡ longestPlace (now (state .entry)) shard 31 ⌝ }
 {
-    let first = (shard as usize) * 2112 + 64;
+    let first = (shard as usize) * SHARD_WORDS + HEAD_WORDS;
     let mut best = first;
-    let mut most = state[first + 2];
+    let mut most = state[first + STABLE];
     let mut n = 1;
     while n < 32 {
-        let at = first + n * 64;
-        let stable = state[at + 2];
+        let at = first + n * REPLICA_WORDS;
+        let stable = state[at + STABLE];
         if most < stable {
             best = at;
             most = stable;

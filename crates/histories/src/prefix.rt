@@ -4,11 +4,15 @@ use crate::copy::copy_entries;
 use lookup::Seat;
 ghost use mathlib.Core.Path.{_≡_};
 ghost use Rattle.histories.specs.Seats.{isSeatName, seatNamed};
-ghost use Rattle.histories.specs.Prefix.{prefixListing, afterPrefix};
+ghost use Rattle.histories.specs.Listing.{listingNumber, listingCount};
+ghost use Rattle.histories.specs.Prefix.{prefixRejection, prefixCount, prefixListing, afterPrefix};
 
 // Copies the stable prefix of a host's replica to the start of an output; a rejection (1, 7, 9, 10, 11 or 8) leaves the output untouched.
 pub fn stable_prefix(state: &[u64], shard: u64, index: u64, host: u64, out: &mut [u64]) -> Listing
-    ensures { λ r. ⌜ (r ≡ prefixListing (now (state .entry)) shard index host (now (out .entry))) × (now (out .exit) ≡ afterPrefix (now (state .entry)) shard index host (now (out .entry))) ⌝ }
+    ensures { λ r. ⌜ listingNumber r ≡ prefixRejection (now (state .entry)) shard index host (now (out .entry)) ⌝ }
+    ensures { λ r. ⌜ listingCount r ≡ prefixCount (now (state .entry)) shard index host (now (out .entry)) ⌝ }
+    ensures { λ r. ⌜ r ≡ prefixListing (now (state .entry)) shard index host (now (out .entry)) ⌝ }
+    ensures { λ _. ⌜ now (out .exit) ≡ afterPrefix (now (state .entry)) shard index host (now (out .entry)) ⌝ }
 {
     let seat = find_seat(state, shard, index, host);
     let place = seat.place;
@@ -39,13 +43,7 @@ fn find_seat(state: &[u64], shard: u64, index: u64, host: u64) -> Seat
 fn is_seat_name(shards: usize, shard: u64, index: u64, host: u64) -> bool
     ensures { λ r. ⌜ r ≡ isSeatName shards shard index host ⌝ }
 {
-    if shards as u64 <= shard {
-        return false;
-    }
-    if index < 1 {
-        return false;
-    }
-    if 8 < index {
+    if !arguments::is_index_of(shards, shard, index) {
         return false;
     }
     host < 16

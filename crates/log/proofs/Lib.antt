@@ -5,7 +5,6 @@ pub mod Turns
 pub mod Lengths
 pub mod Writes
 -- Steps
-pub mod KindTests
 pub mod StepParts
 pub mod ShortSteps
 pub mod StepBytes

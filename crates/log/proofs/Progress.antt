@@ -1,8 +1,8 @@
 -- Writing bytes part by part. Assumes nothing.
 use Prim.Native.Nat.{ℕ, suc, _+_, _≤_}
 use native.Mathlib.Omega.{arith}
-use mathlib.Core.Path.{_≡_, refl}
-use mathlib.Core.List.{List, [], _∷_, _++_}
+use mathlib.Core.Path.{_≡_, refl, _∙_}
+use mathlib.Core.List.{List, [], _∷_, _++_, append-nil}
 use lib.ListN.{length, set, length-append}
 use lib.Seq.{sets, length-sets}
 
@@ -16,28 +16,33 @@ sets-append (x ∷ xs) ys out at =
 -- of all the bytes that go to a position of the first output, the rest are to be written at p
 pub record Progress (first : List ℕ) (at : ℕ) (all out : List ℕ) (p : ℕ) (rest : List ℕ) : Type 0 where
   pub same : sets out p rest ≡ sets first at all
+  pub kept : length out ≡ length first
   pub room : p + length rest ≤ length out
   pub end : p + length rest ≡ at + length all
 
 pub progress-first : (out : List ℕ) (at : ℕ) (all : List ℕ) → at + length all ≤ length out → Progress out at all out at all
-progress-first out at all h = record { same = refl; room = h; end = refl }
+progress-first out at all h = record { same = refl; kept = refl; room = h; end = refl }
 
 module _ {first : List ℕ} {at : ℕ} {all out : List ℕ} {p : ℕ} where
   module _ (xs rest : List ℕ) (t : Progress first at all out p (xs ++ rest)) where
     pub progress-room : p + length xs ≤ length out
     progress-room = omega (arith, rw (length-append xs rest) at (t .room))
 
-    pub progress-next : {next : List ℕ} {q : ℕ} → q ≡ p + length xs → next ≡ sets out p xs → Progress first at all next q rest
-    progress-next e f =
+    -- the next bytes were written
+    pub progress-next : {next : List ℕ} {q : ℕ} → (q ≡ p + length xs) × (next ≡ sets out p xs) → Progress first at all next q rest
+    progress-next e =
         record {
-          same = rw (e, f, ← sets-append xs rest out p) (t .same);
-          room = rw (f, length-sets out p xs) (omega (arith, e, rw (length-append xs rest) at (t .room)));
-          end = omega (arith, e, rw (length-append xs rest) at (t .end));
+          same = rw (e .0, e .1, ← sets-append xs rest out p) (t .same);
+          kept = rw (e .1) (length-sets out p xs ∙ t .kept);
+          room = rw (e .1, length-sets out p xs) (omega (arith, e .0, rw (length-append xs rest) at (t .room)));
+          end = omega (arith, e .0, rw (length-append xs rest) at (t .end));
         }
 
-  -- all is written, up to the position p
-  pub progress-end : Progress first at all out p [] → p ≡ at + length all
-  progress-end t = omega (arith, t .end)
+  -- the last bytes were written
+  pub progress-last : {xs next : List ℕ} {q : ℕ} → Progress first at all out p xs → (q ≡ p + length xs) × (next ≡ sets out p xs)
+      → Progress first at all next q []
+  progress-last {xs} t e = progress-next xs [] (rw (append-nil xs) t) e
 
-  pub progress-done : Progress first at all out p [] → out ≡ sets first at all
-  progress-done t = t .same
+  -- all is written, up to the position p
+  pub progress-end : Progress first at all out p [] → (p ≡ at + length all) × (out ≡ sets first at all)
+  progress-end t = (omega (arith, t .end), t .same)

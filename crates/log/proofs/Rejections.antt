@@ -15,7 +15,7 @@ use Rattle.model.specs.Kinds.{kindOf, isKept, isUnknown, usedNumbers}
 use Rattle.model.specs.Writer.{isWritable, areWritable, stepBytes, writeRejection, writing, afterWriting}
 use Rattle.model.proofs.RoundTrip.{kind-below}
 use Rattle.model.proofs.Tests.{all-pass}
-use Rattle.log.specs.Kinds.{kindRejection, Known}
+use Rattle.model.specs.Rules.{kindRejection, Known}
 use Rattle.log.specs.Writer.{writable, bytesOf, Room}
 use Rattle.log.proofs.StepBytes.{bytes-used}
 

@@ -15,7 +15,7 @@ use Rattle.model.specs.Numbers.{numberBytes, numbersBytes}
 use Rattle.model.specs.Writer.{stepBytes}
 use Rattle.model.proofs.RoundTrip.{used-cases}
 use Rattle.log.specs.Writer.{bytesOf}
-use Rattle.log.specs.Kinds.{Known}
+use Rattle.model.specs.Rules.{Known}
 use Rattle.log.proofs.Lengths.{length-one, length-most}
 
 either-bytes : (s : Step) (u : ℕ) → (u ≡ 3) ⊎ (u ≡ 4) → usedNumbers (kindOf (s .kind)) ≡ u → bytesOf s u ≡ stepBytes s

@@ -2,25 +2,23 @@
 use Prim.Native.Nat.{ℕ, suc, _+_, _≤_, _<_}
 use native.Mathlib.Omega.{arith}
 use mathlib.Core.Path.{_≡_, refl, sym, _∙_}
-use mathlib.Core.Bool.{Bool, true, false, cond, true≢false}
+use mathlib.Core.Bool.{Bool, true, false, cond}
 use mathlib.Core.List.{List, [], _∷_, _++_, append-assoc, append-nil}
-use lib.Dec.{leb}
 use lib.ListN.{length, drop, length-drop, drop-of-length-le}
 use lib.Seq.{drop-drop}
 use Rattle.model.specs.declared.Number.{Number}
 use Rattle.model.specs.declared.Number.the-variants.{Value, Rejected as NotNumber}
 use Rattle.model.specs.declared.Reading.{Reading}
 use Rattle.model.specs.declared.Reading.the-variants.{Step as Read, End, Rejected}
-use Rattle.model.specs.declared.kind.Kind.{Kind}
-use Rattle.model.specs.declared.kind.Kind.the-variants.{Add, Adopt, Learn, Wedge, Install, Inherit, Kept, Unknown}
 use Rattle.model.specs.declared.step.Step.{Step}
-use Rattle.model.specs.Kinds.{kindOf, isKept, isUnknown, usedNumbers}
+use Rattle.model.specs.Kinds.{kindOf, isKept, isUnknown}
 use Rattle.model.specs.Log.{stepOf, afterNumbers, afterKind, readStep, readAt, from}
 use Rattle.model.specs.Numbers.{Numbers, values, rejected, readNumber, readNumbers, afterFirst, withFirst}
 use Rattle.model.proofs.Numbers.{number-bytes-least, number-within}
 use Rattle.model.proofs.RoundTrip.{step-least, step-within}
-use Rattle.log.specs.Kinds.{kindRejection, Known}
-use Rattle.log.specs.Reader.{stepAfter, fourth, kindAt}
+use Rattle.model.specs.Rules.{kindRejection, Known, fourthNumbers}
+use Rattle.model.proofs.Rules.{used-fourth}
+use Rattle.log.specs.Reader.{stepAfter, kindAt}
 
 -- ---- one number
 
@@ -60,21 +58,6 @@ number-inside log at p q =
 
 -- ---- the kind
 
-used-cases : (k : Kind) → Known k → usedNumbers k ≡ suc (suc (suc (cond (leb 4 (usedNumbers k)) 1 0)))
-unfolding isKept isUnknown usedNumbers
-used-cases Add h = refl
-used-cases Adopt h = refl
-used-cases Learn h = refl
-used-cases Wedge h = refl
-used-cases Install h = refl
-used-cases Inherit h = refl
-used-cases Kept h = absurd (true≢false (h .notKept))
-used-cases Unknown h = absurd (true≢false (h .known))
-
-used-fourth : (k : ℕ) → Known (kindOf k) → usedNumbers (kindOf k) ≡ suc (suc (suc (fourth k)))
-unfolding fourth
-used-fourth k h = used-cases (kindOf k) h
-
 numbers-first : (k n : ℕ) (r : Numbers) → afterNumbers k n r ≡ stepAfter k [] n r
 unfolding afterNumbers stepAfter
 numbers-first k n (values vs m) = refl
@@ -97,7 +80,7 @@ module _ (log : List ℕ) (at k : ℕ) where
 
   pub kind-taken :
       Known (kindOf k) → {r : Reading}
-      → r ≡ stepAfter k [] at (readNumbers (suc (suc (suc (fourth k)))) (drop at log))
+      → r ≡ stepAfter k [] at (readNumbers (suc (suc (suc (fourthNumbers k)))) (drop at log))
       → r ≡ kindAt log at k
   unfolding kindAt
   kind-taken h e = rw (h .notKept, h .known, used-fourth k h) e

@@ -1,4 +1,3 @@
 -- What the functions inside this crate answer. The public functions answer definitions of `model`.
-pub mod Kinds
 pub mod Reader
 pub mod Writer

@@ -1,11 +1,13 @@
 -- Reading a step in parts: its kind, then one number after the other.
-use Prim.Native.Nat.{ℕ, _+_, _≤_, _<_}
-use mathlib.Core.Bool.{cond}
+use Prim.Native.Nat.{ℕ, _+_, _≤_}
+use mathlib.Core.Path.{_≡_}
+use mathlib.Core.Bool.{Bool, true, cond}
 use mathlib.Core.List.{List, [], _++_}
-use lib.Dec.{leb}
+use lib.Dec.{ltb}
 use lib.ListN.{length, getD, drop}
 use Rattle.model.specs.declared.Reading.{Reading}
 use Rattle.model.specs.declared.Reading.the-variants.{Step as Read, Rejected}
+use Rattle.model.specs.Tests.{allBelow}
 use Rattle.model.specs.Kinds.{kindOf, isKept, isUnknown, usedNumbers}
 use Rattle.model.specs.Log.{stepOf}
 use Rattle.model.specs.Numbers.{Numbers, values, rejected, readNumbers}
@@ -15,10 +17,6 @@ unfoldable pub stepAfter : ℕ → List ℕ → ℕ → Numbers → Reading
 stepAfter k prior at (values vs m) = Read (stepOf k (prior ++ vs)) (at + m)
 stepAfter k prior at (rejected r) = Rejected r
 
--- a kind uses three numbers, and a fourth where it uses four: the count of fourth numbers
-unfoldable pub fourth : ℕ → ℕ
-fourth k = cond (leb 4 (usedNumbers (kindOf k))) 1 0
-
 -- what is read at a position where a step's kind was read before it
 unfoldable pub kindAt : List ℕ → ℕ → ℕ → Reading
 kindAt log at k =
@@ -26,10 +24,9 @@ kindAt log at k =
     (cond (isUnknown (kindOf k)) (Rejected 4) (stepAfter k [] at (readNumbers (usedNumbers (kindOf k)) (drop at log))))
 
 -- the first five bytes are numbers of one byte
+unfoldable pub isShort : List ℕ → Bool
+isShort log = allBelow 5 (λ i. ltb (getD log i 0) 128)
+
 pub record Short (log : List ℕ) : Type 0 where
   pub bytes : 5 ≤ length log
-  pub first : getD log 0 0 < 128
-  pub second : getD log 1 0 < 128
-  pub third : getD log 2 0 < 128
-  pub next : getD log 3 0 < 128
-  pub last : getD log 4 0 < 128
+  pub short : isShort log ≡ true

@@ -1,7 +1,6 @@
 // Steps as bytes: numbers, the step reader and the step writer. What they mean is in `model`: `Numbers`, `Log` and `Writer`.
 
-mod kinds;
-pub mod number;
+mod number;
 mod number_bytes;
 pub mod reader;
 mod short;

@@ -27,7 +27,8 @@ pub fn number_length(n: u64) -> usize
 // Writes a number where the output has room for it, and returns the position after it.
 pub fn write_number(out: &mut [u8], at: usize, n: u64) -> usize
     requires { ⌜ (n < 2 ^ 35) × (at + length (numberBytes n) ≤ length (now out)) ⌝ }
-    ensures { λ r. ⌜ (r ≡ at + length (numberBytes n)) × (now (out .exit) ≡ sets (now (out .entry)) at (numberBytes n)) ⌝ }
+    ensures { λ r. ⌜ r ≡ at + length (numberBytes n) ⌝ }
+    ensures { λ _. ⌜ now (out .exit) ≡ sets (now (out .entry)) at (numberBytes n) ⌝ }
 {
     let mut rest = n;
     let mut i = 0;

@@ -1,5 +1,4 @@
 // Steps from bytes: a kind, then the numbers that it uses, each read at its position.
-use crate::kinds::rejection;
 use crate::number::read_number;
 use crate::short::is_short;
 use crate::short::short_step;
@@ -13,10 +12,15 @@ ghost use Prim.Native.Nat.{suc};
 ghost use lib.ListN.{drop};
 ghost use Rattle.model.specs.Numbers.{readNumbers};
 ghost use Rattle.model.specs.Log.{readAt, readStep};
-ghost use Rattle.log.specs.Reader.{stepAfter, fourth, kindAt};
+ghost use Rattle.model.specs.Results.{readingNumber, readingStep, readingNext, readRejection, stepRead, bytesRead, nextRead};
+ghost use Rattle.model.specs.Rules.{fourthNumbers};
+ghost use Rattle.log.specs.Reader.{stepAfter, kindAt};
 
-// The step at a position of a log.
+// The step at a position of a log: the rejection, the step, and the position after it.
 pub fn read_step(log: &[u8], at: usize) -> Reading
+    ensures { λ r. ⌜ readingNumber r ≡ readRejection (drop at (now (log .entry))) ⌝ }
+    ensures { λ r. ⌜ readingStep r ≡ stepRead (drop at (now (log .entry))) ⌝ }
+    ensures { λ r. ⌜ readingNext r ≡ nextRead (now (log .entry)) at ⌝ }
     ensures { λ r. ⌜ r ≡ readAt (now (log .entry)) at ⌝ }
 {
     if log.len() <= at {
@@ -35,6 +39,9 @@ pub fn read_step(log: &[u8], at: usize) -> Reading
 // The step at the start of a log, with the count of its bytes. A caller that adds the count to a position itself need not wait for the
 // position inside the reader.
 pub fn first_step(log: &[u8]) -> Reading
+    ensures { λ r. ⌜ readingNumber r ≡ readRejection (now (log .entry)) ⌝ }
+    ensures { λ r. ⌜ readingStep r ≡ stepRead (now (log .entry)) ⌝ }
+    ensures { λ r. ⌜ readingNext r ≡ bytesRead (now (log .entry)) ⌝ }
     ensures { λ r. ⌜ r ≡ readStep (now (log .entry)) ⌝ }
 {
     if 5 <= log.len() {
@@ -62,15 +69,15 @@ fn any_step(log: &[u8]) -> Reading
 fn after_kind(log: &[u8], at: usize, kind: u64) -> Reading
     ensures { λ r. ⌜ r ≡ kindAt (now (log .entry)) at kind ⌝ }
 {
-    let bad = rejection(Kind::of(kind));
-    if bad != 0 {
-        return Reading::Rejected(bad);
+    let rules = Kind::of(kind).rules();
+    if rules.rejection != 0 {
+        return Reading::Rejected(rules.rejection);
     }
     read_a(log, at, kind)
 }
 
 fn read_a(log: &[u8], at: usize, kind: u64) -> Reading
-    ensures { λ r. ⌜ r ≡ stepAfter kind [] at (readNumbers (suc (suc (suc (fourth kind)))) (drop at (now (log .entry)))) ⌝ }
+    ensures { λ r. ⌜ r ≡ stepAfter kind [] at (readNumbers (suc (suc (suc (fourthNumbers kind)))) (drop at (now (log .entry)))) ⌝ }
 {
     match read_number(log, at) {
         Number::Value { value, bytes } => read_b(log, at + bytes, kind, value),
@@ -79,7 +86,7 @@ fn read_a(log: &[u8], at: usize, kind: u64) -> Reading
 }
 
 fn read_b(log: &[u8], at: usize, kind: u64, a: u64) -> Reading
-    ensures { λ r. ⌜ r ≡ stepAfter kind (a ∷ []) at (readNumbers (suc (suc (fourth kind))) (drop at (now (log .entry)))) ⌝ }
+    ensures { λ r. ⌜ r ≡ stepAfter kind (a ∷ []) at (readNumbers (suc (suc (fourthNumbers kind))) (drop at (now (log .entry)))) ⌝ }
 {
     match read_number(log, at) {
         Number::Value { value, bytes } => read_c(log, at + bytes, kind, a, value),
@@ -88,7 +95,7 @@ fn read_b(log: &[u8], at: usize, kind: u64, a: u64) -> Reading
 }
 
 fn read_c(log: &[u8], at: usize, kind: u64, a: u64, b: u64) -> Reading
-    ensures { λ r. ⌜ r ≡ stepAfter kind (a ∷ b ∷ []) at (readNumbers (suc (fourth kind)) (drop at (now (log .entry)))) ⌝ }
+    ensures { λ r. ⌜ r ≡ stepAfter kind (a ∷ b ∷ []) at (readNumbers (suc (fourthNumbers kind)) (drop at (now (log .entry)))) ⌝ }
 {
     match read_number(log, at) {
         Number::Value { value, bytes } => {

@@ -1,5 +1,4 @@
 // Steps to bytes: a kind, then the numbers that it uses.
-use crate::kinds::rejection;
 use crate::number_bytes::number_length;
 use crate::number_bytes::write_number;
 use model::Writing;
@@ -10,20 +9,22 @@ ghost use Prim.Native.Nat.{_+_, _<_};
 ghost use lib.Dec.{leb};
 ghost use lib.ListN.{length};
 ghost use lib.Seq.{sets};
-ghost use Rattle.model.specs.Writer.{writing, afterWriting};
+ghost use Rattle.model.specs.Writer.{stepBytes, writeRejection, writing, afterWriting};
+ghost use Rattle.model.specs.Results.{writingNumber, writingCount, countBeside};
 ghost use Rattle.log.specs.Writer.{writable, bytesOf, Room};
 
 // Writes a step at a position of an output: the count of bytes, or the rejection, which leaves the output untouched.
 pub fn write_step(out: &mut [u8], at: usize, s: Step) -> Writing
+    ensures { λ r. ⌜ writingNumber r ≡ writeRejection (now (out .entry)) at s ⌝ }
+    ensures { λ r. ⌜ writingCount r ≡ countBeside (writeRejection (now (out .entry)) at s) (stepBytes s) ⌝ }
     ensures { λ r. ⌜ r ≡ writing (now (out .entry)) at s ⌝ }
-    ensures { λ r. ⌜ now (out .exit) ≡ afterWriting (now (out .entry)) at s ⌝ }
+    ensures { λ _. ⌜ now (out .exit) ≡ afterWriting (now (out .entry)) at s ⌝ }
 {
-    let kind = Kind::of(s.kind);
-    let bad = rejection(kind);
-    if bad != 0 {
-        return Writing::Rejected(bad);
+    let rules = Kind::of(s.kind).rules();
+    if rules.rejection != 0 {
+        return Writing::Rejected(rules.rejection);
     }
-    let used = kind.used();
+    let used = s.used();
     if !are_writable(s, used) {
         return Writing::Rejected(7);
     }
@@ -91,7 +92,8 @@ fn step_length(s: Step, used: usize) -> usize
 // Writes the bytes of a step where the output has room for them, and returns the position after them.
 fn write_bytes(out: &mut [u8], at: usize, s: Step, used: usize) -> usize
     requires { ⌜ Room (now out) at s used ⌝ }
-    ensures { λ r. ⌜ (r ≡ at + length (bytesOf s used)) × (now (out .exit) ≡ sets (now (out .entry)) at (bytesOf s used)) ⌝ }
+    ensures { λ r. ⌜ r ≡ at + length (bytesOf s used) ⌝ }
+    ensures { λ _. ⌜ now (out .exit) ≡ sets (now (out .entry)) at (bytesOf s used) ⌝ }
 {
     let at_a = write_number(out, at, s.kind);
     let at_b = write_number(out, at_a, s.a);

@@ -1,28 +1,23 @@
 -- Words of a state as fields of the replica that they belong to.
 -- Assumes nothing.
-use Prim.Native.Nat.{ℕ, _+_, _<_}
+use Prim.Native.Nat.{ℕ, _+_}
 use native.Mathlib.Nat.{add-zero}
 use native.Mathlib.Omega.{arith}
 use mathlib.Core.Path.{_≡_, refl, ap, _∙_}
 use mathlib.Core.Bool.{true}
 use mathlib.Core.List.{List}
 use lib.Dec.{eqb}
-use lib.ListN.{length, getD, drop}
-use lib.Seq.{getD-take, getD-drop}
+use lib.ListN.{length, getD}
 use Rattle.model.specs.Members.{hasMember, replicaNumber}
 use Rattle.model.specs.Replicas.{readReplica, replicaWords, isActive, isPending, isImmutable}
 use Rattle.model.specs.Layout.{part, place, replicaAt, shardsOf, members}
 use Rattle.model.specs.Configuration.{configuration, replicaPlace}
+use Rattle.model.proofs.Parts.{part-word}
 use Rattle.model.proofs.Places.{replica-place}
 use Rattle.model.proofs.SeatedReplica.{number-small}
 use Rattle.model.proofs.WellFormed.{WellFormed, well-formed}
 use Rattle.model.proofs.WellFormedParts.{part-is-words}
 use Rattle.lookup.specs.Ready.{Formed, Ready}
-
--- a word of a part is a word of the state
-pub part-word : (w : List ℕ) (at i : ℕ) → i < 64 → getD (part w at) i 0 ≡ getD w (at + i) 0
-unfolding part
-part-word w at i h = getD-take 64 (drop at w) i 0 h ∙ getD-drop at w i 0
 
 pub mode-word : (w : List ℕ) (at : ℕ) → replicaAt w at .mode ≡ getD w at 0
 unfolding replicaAt readReplica

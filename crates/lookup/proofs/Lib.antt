@@ -1,4 +1,8 @@
 -- Laws of well-formed states, of their words, and of where replicas are.
 pub mod Formed
 pub mod Fields
+pub mod Words
 pub mod Seats
+pub mod Orderers
+pub mod Stores
+pub mod KindAnswers

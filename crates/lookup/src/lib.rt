@@ -1,10 +1,17 @@
 // Looking into a well-formed state: configurations by value, and where a host's replica is. No entry point: callers have tested the state.
 use model::configuration::Configuration;
+use model::layout::CONFIGURATION_WORDS;
+use model::layout::HEAD_WORDS;
+use model::layout::INSTALLED;
+use model::layout::MEMBERS;
+use model::layout::ORDERERS;
+use model::layout::SHARD_WORDS;
 ghost use mathlib.Core.Path.{_≡_};
 ghost use Prim.Native.Nat.{_+_};
 ghost use Rattle.model.specs.Layout.{isInstalled};
 ghost use Rattle.model.specs.Configuration.{configuration};
-ghost use Rattle.lookup.specs.Ready.{Ready, ReadyHost, Placed};
+ghost use Rattle.model.specs.Add.{ordererPlace};
+ghost use Rattle.lookup.specs.Ready.{Ready, ReadyHost, ReadyInstalled, Placed};
 ghost use Rattle.lookup.specs.Seats.{seatOf};
 
 // Whether configuration j of shard z is installed.
@@ -12,7 +19,7 @@ pub fn is_installed(state: &[u64], z: usize, j: usize) -> bool
     requires { ⌜ Ready (now state) z j ⌝ }
     ensures { λ r. ⌜ r ≡ isInstalled (now (state .entry)) z j ⌝ }
 {
-    (j as u64) < state[z * 2112 + 1]
+    (j as u64) < state[z * SHARD_WORDS + INSTALLED]
 }
 
 // Configuration j of shard z.
@@ -20,10 +27,11 @@ pub fn configuration_of(state: &[u64], z: usize, j: usize) -> Configuration
     requires { ⌜ Ready (now state) z j ⌝ }
     ensures { λ r. ⌜ r ≡ configuration (now (state .entry)) z j ⌝ }
 {
+    let at = z * SHARD_WORDS;
     Configuration {
-        place: z * 2112 + 64 + j * 256,
-        members: state[z * 2112 + 2 + j],
-        orderer: state[z * 2112 + 10 + j],
+        place: at + HEAD_WORDS + j * CONFIGURATION_WORDS,
+        members: state[at + MEMBERS + j],
+        orderer: state[at + ORDERERS + j],
     }
 }
 
@@ -55,4 +63,13 @@ pub fn find(state: &[u64], z: usize, j: usize, host: u64) -> Seat
         answer: 0,
         place: c.replica(host),
     }
+}
+
+// The place of the orderer's replica in an installed configuration.
+pub fn orderer_place(state: &[u64], z: usize, j: usize) -> usize
+    requires { ⌜ ReadyInstalled (now state) z j ⌝ }
+    ensures { λ r. ⌜ (r ≡ ordererPlace (now (state .entry)) z j) × Placed (now (state .entry)) r ⌝ }
+{
+    let c = configuration_of(state, z, j);
+    c.replica(c.orderer)
 }

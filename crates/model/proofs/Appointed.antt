@@ -11,7 +11,7 @@ use Rattle.model.specs.Setup.{afterSetup}
 use Rattle.model.specs.StableHistory.{stableHistory}
 use Rattle.model.specs.OneList.{shards}
 use Rattle.model.specs.Appointed.{IsIssueOf, AppointedIn, Appointed}
-use Rattle.model.proofs.Places.{length-of-shards}
+use Rattle.model.proofs.Lengths.{length-of-shards}
 use Rattle.model.proofs.WellFormed.{WellFormed, well-formed}
 use Rattle.model.proofs.WellFormedMembers.{Configured, head-installed}
 use Rattle.model.proofs.Safe.{Safe}

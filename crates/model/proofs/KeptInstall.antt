@@ -7,18 +7,17 @@ use native.Mathlib.Decide.{ℕ-discrete, decLt}
 use mathlib.Core.Path.{_≡_, refl, sym, ap, subst, _∙_}
 use mathlib.Core.Bool.{true}
 use mathlib.Core.List.{List, [], _∷_}
-use lib.Dec.{ltb, eqb, lit≤, lit<}
-use borrow.Author.Tests.{ltb-true, eqb-true, eq-eqb}
+use lib.Dec.{lit≤, lit<}
+use borrow.Author.Tests.{eq-eqb}
 use lib.ListN.{length, getD}
 use Rattle.model.specs.Members.{size, replicaNumber, isConfiguration}
 use Rattle.model.specs.Entries.{issue, isIssue, isIssueFor, issueIndex, issueShard, issueOrderer, issueMembers, names, firstIssue}
 use Rattle.model.specs.Replicas.{Replica, readReplica, stablePrefix, pending, unused}
 use Rattle.model.specs.Layout.{headWord, sequencer, installed, members, orderer, replicaAt}
-use Rattle.model.specs.Install.{issuer, issuedAt, isStableIssue, noneBefore, installChecks, installNext, installEffect}
+use Rattle.model.specs.Install.{issuer, issuedAt, noneBefore, installChecks, installNext, installEffect}
 use Rattle.model.specs.StableHistory.{stableHistory}
 use Rattle.model.specs.Prefixes.{Begins}
 use Rattle.model.specs.OneList.{shards}
-use Rattle.model.proofs.Tests.{both}
 use Rattle.model.proofs.Checks.{AllPass}
 use Rattle.model.proofs.Parts.{read-words}
 use Rattle.model.proofs.Prefixes.{begins-refl, begins-getD}
@@ -34,7 +33,7 @@ use Rattle.model.proofs.WellFormed.{size-of}
 use Rattle.model.proofs.WellFormedParts.{Vacant, part-vacant}
 use Rattle.model.proofs.WellFormedMembers.{configured}
 use Rattle.model.proofs.InstallNext.{next-length, next-other, next-installed, next-members, next-orderer, next-pending, next-parts}
-use Rattle.model.proofs.WellFormedInstall.{old-vacant, issuer-proper, issue-proper, next-index}
+use Rattle.model.proofs.WellFormedInstall.{old-vacant, issuer-proper, issue-proper, stable-issue, next-index}
 use Rattle.model.proofs.SeatedReplica.{member-view}
 use Rattle.model.proofs.Safe.{Safe, Issued}
 use Rattle.model.proofs.Kept.{Kept, formed, sequencer-below, inv-same, issued-stays}
@@ -222,19 +221,16 @@ module _ {w : List ℕ} {offers : ℕ → List ℕ} (x : Safe w offers) {z j : �
   entry : ℕ
   entry = issuedAt w z j h p
 
-  stable-issue : (p < issuer w z j h .stable) × (isIssue entry ≡ true) × (issueShard entry ≡ z)
-  unfolding installChecks isStableIssue isIssueFor entry
-  stable-issue =
-      let t = both (ltb p (issuer w z j h .stable)) (isIssueFor z (issuedAt w z j h p)) .0 (search) in
-      let i = both (isIssue (issuedAt w z j h p)) (eqb (issueShard (issuedAt w z j h p)) z) .0 (t .1) in
-      (ltb-true p (issuer w z j h .stable) (t .0), i .0, eqb-true (issueShard (issuedAt w z j h p)) z (i .1))
+  said : (p < issuer w z j h .stable) × (isIssue entry ≡ true) × (issueShard entry ≡ z)
+  unfolding entry
+  said = stable-issue (formed x) hz hj h p c
 
   entry-is : entry ≡ issue (installed w z + 1) z (issueOrderer entry) (issueMembers entry)
   unfolding entry
   entry-is =
-      issue-word entry (stable-issue .1)
+      issue-word entry (said .1)
       ∙ ap (λ (k : ℕ). issue k (issueShard entry) (issueOrderer entry) (issueMembers entry)) (next-index (formed x) hz hj h p c)
-      ∙ ap (λ (k : ℕ). issue (installed w z + 1) k (issueOrderer entry) (issueMembers entry)) (stable-issue .2)
+      ∙ ap (λ (k : ℕ). issue (installed w z + 1) k (issueOrderer entry) (issueMembers entry)) (said .2)
 
   -- the issuer is a replica of the sequencer's view
   issuer-number : ℕ
@@ -247,7 +243,7 @@ module _ {w : List ℕ} {offers : ℕ → List ℕ} (x : Safe w offers) {z j : �
   names-entry : names z (issueIndex entry) entry ≡ true
   unfolding names isIssueFor
   names-entry =
-      rw (stable-issue .1, eq-eqb (issueShard entry) z (stable-issue .2), eq-eqb (issueIndex entry) (issueIndex entry) refl)
+      rw (said .1, eq-eqb (issueShard entry) z (said .2), eq-eqb (issueIndex entry) (issueIndex entry) refl)
 
   before-none : noneBefore z (issueIndex entry) p (issuer w z j h .history) ≡ true
   unfolding installChecks entry
@@ -257,9 +253,9 @@ module _ {w : List ℕ} {offers : ℕ → List ℕ} (x : Safe w offers) {z j : �
   first-in-prefix : firstIssue z (issueIndex entry) (stablePrefix (issuer w z j h)) ≡ entry
   unfolding entry issuedAt
   first-in-prefix =
-      first-at z (issueIndex entry) (stablePrefix (issuer w z j h)) p (rw long (stable-issue .0)) (rw (at p (stable-issue .0)) names-entry)
-      (λ q l. rw (at q (omega (arith, l, stable-issue .0))) (none-before z (issueIndex entry) p (issuer w z j h .history) none q l))
-      ∙ at p (stable-issue .0)
+      first-at z (issueIndex entry) (stablePrefix (issuer w z j h)) p (rw long (said .0)) (rw (at p (said .0)) names-entry)
+      (λ q l. rw (at q (omega (arith, l, said .0))) (none-before z (issueIndex entry) p (issuer w z j h .history) none q l))
+      ∙ at p (said .0)
     where
       long : length (stablePrefix (issuer w z j h)) ≡ issuer w z j h .stable
       long = prefix-length (issuer w z j h) (issuer-proper (formed x) hz hj h p c .stable-most)

@@ -7,10 +7,13 @@ pub mod Checks
 pub mod Members
 pub mod Parts
 pub mod Places
+pub mod Lengths
+pub mod Heads
 pub mod Alike
 -- Well-formed states
 pub mod Entries
 pub mod WellFormedParts
+pub mod Ranges
 pub mod WellFormed
 pub mod WellFormedMembers
 pub mod ProperReplicas
@@ -55,6 +58,7 @@ pub mod Appointed
 pub mod Numbers
 pub mod Several
 pub mod RoundTrip
+pub mod Rules
 pub mod LogRoundTrip
 pub mod Results
 -- Longer logs
@@ -63,3 +67,4 @@ pub mod LongerLogs
 -- The marked cases
 pub mod Answers
 pub mod Marked
+pub mod OwnCases

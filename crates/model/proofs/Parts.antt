@@ -41,7 +41,7 @@ short w at = simp (length-take, length-drop) (omega arith)
 -- ---- lists that agree on a part
 
 -- the words of a part, one by one
-part-word : (w : List ℕ) (at i : ℕ) → i < 64 → getD (part w at) i 0 ≡ getD w (at + i) 0
+pub part-word : (w : List ℕ) (at i : ℕ) → i < 64 → getD (part w at) i 0 ≡ getD w (at + i) 0
 unfolding part
 part-word w at i h = getD-take 64 (drop at w) i 0 h ∙ getD-drop at w i 0
 

@@ -1,37 +1,16 @@
 -- Laws of the places of a state: its parts and head words lie in it, apart from each other.
-use Prim.Native.Nat.{ℕ, _+_, _*_, _/_, _≤_, _<_}
+use Prim.Native.Nat.{ℕ, _+_, _*_, _≤_, _<_}
 use native.Mathlib.Omega.{arith}
 use native.Mathlib.Decide.{decLe}
-use mathlib.Core.Path.{_≡_, refl, sym}
-use mathlib.Core.Bool.{Bool, true, false, cond, _&&_}
-use mathlib.Core.List.{List, [], _∷_}
-use lib.Dec.{leb, eqb}
+use mathlib.Core.Path.{_≡_, sym}
+use mathlib.Core.List.{List}
 use lib.ListN.{length}
 use lib.Seq.{getD-set-same, getD-set-other}
-use borrow.Author.Tests.{eqb-true, leb-true}
 use Rattle.model.specs.Members.{replicaNumber}
 use Rattle.model.specs.Replicas.{Replica}
-use Rattle.model.specs.Layout.{shardsOf, headPlace, place, headWord, sequencer, installed, members, orderer, putReplica, putHead}
+use Rattle.model.specs.Layout.{headPlace, place, headWord, sequencer, installed, members, orderer, putReplica, putHead}
 use Rattle.model.specs.Configuration.{configuration, replicaPlace}
-use Rattle.model.proofs.Tests.{all-pass}
 use Rattle.model.proofs.Parts.{Apart, before, behind, Outside, below, above, word-put-other}
-
--- ---- lengths
-
--- a choice that is no 0 took its first way
-taken : (b : Bool) (x Z : ℕ) → cond b x 0 ≡ Z → 2 ≤ Z → (b ≡ true) × (x ≡ Z)
-taken true x Z e h = (refl, e)
-taken false x Z e h = absurd (omega arith)
-
-pub length-of-shards : (w : List ℕ) (Z : ℕ) → shardsOf (length w) ≡ Z → 2 ≤ Z → (length w ≡ Z * 2112) × (Z ≤ 8)
-unfolding shardsOf
-length-of-shards w Z e h =
-    let t = taken (eqb (n / 2112 * 2112) n && leb 2 (n / 2112) && leb (n / 2112) 8) (n / 2112) Z e h in
-    let p = all-pass (eqb (n / 2112 * 2112) n) (leb 2 (n / 2112) ∷ leb (n / 2112) 8 ∷ []) (t .0) in
-    omega (arith, t, eqb-true (n / 2112 * 2112) n (p .0), leb-true (n / 2112) 8 (p .1 .1 .0))
-  where
-    n : ℕ
-    n = length w
 
 -- ---- places
 

@@ -1,6 +1,6 @@
 -- The program's plan is accepted, and the state that it gives is well-formed.
 use Prim.Native.Nat.{ℕ}
-use mathlib.Core.Path.{_≡_, refl, _∙_, subst}
+use mathlib.Core.Path.{_≡_, subst}
 use mathlib.Core.List.{List}
 use lib.Count.{ones}
 use lib.ListN.{length}

@@ -3,19 +3,34 @@ use Prim.Native.Nat.{ℕ}
 use mathlib.Core.Path.{_≡_}
 use mathlib.Core.Bool.{true}
 use mathlib.Core.List.{List, [], _∷_}
+use borrow.Author.Tests.{le-leb}
 use Rattle.model.specs.declared.step.Step.{Step}
+use Rattle.model.specs.Checks.{firstOf}
+use Rattle.model.specs.Layout.{isStateLength}
 use Rattle.model.specs.WellFormed.{wellFormed}
 use Rattle.model.specs.Steps.{after}
-use Rattle.model.specs.Replay.{afterAll}
+use Rattle.model.specs.Replay.{afterAll, replayRejection}
 use Rattle.model.specs.StaysWellFormed.{StaysWellFormed}
 use Rattle.model.proofs.Checks.{not-nine}
 use Rattle.model.proofs.WellFormedSetup.{setup-well-formed}
-use Rattle.model.proofs.WellFormedSteps.{kept}
+use Rattle.model.proofs.WellFormed.{WellFormed, is-well-formed}
+use Rattle.model.proofs.WellFormedSteps.{after-formed, kept}
 
 all-kept : (w : List ℕ) (ss : List Step) → wellFormed w ≡ true → wellFormed (afterAll w ss) ≡ true
 unfolding afterAll
 all-kept w [] f = f
 all-kept w (s ∷ ss) f = all-kept (after w s) ss (kept w s f)
+
+-- the same of a known number of shards
+pub all-formed : {Z : ℕ} {w : List ℕ} → WellFormed Z w → (ss : List Step) → WellFormed Z (afterAll w ss)
+unfolding afterAll
+all-formed f [] = f
+all-formed f (s ∷ ss) = all-formed (after-formed f s) ss
+
+-- a replay of a well-formed state is not rejected
+pub replay-accepted : {Z : ℕ} {w : List ℕ} → WellFormed Z w → replayRejection w ≡ 0
+unfolding replayRejection firstOf isStateLength
+replay-accepted {Z} {w} f = rw (f .shards, is-well-formed f, le-leb 2 Z (f .several))
 
 pub stays-well-formed : StaysWellFormed
 stays-well-formed =

@@ -11,7 +11,7 @@ use Rattle.model.specs.Members.{size}
 use Rattle.model.specs.Layout.{shardsOf, place, headWord, sequencer, installed, members, part}
 use Rattle.model.specs.WellFormed.{isPart, isSequencer, allDiffer, isHeadOf, isConfigurationOf, isShard, wellFormed}
 use Rattle.model.proofs.Tests.{both, _also_, all-pass, pass-all, all-below, below-all}
-use Rattle.model.proofs.Places.{length-of-shards}
+use Rattle.model.proofs.Lengths.{length-of-shards}
 
 -- the head words of shard z
 pub record Head (Z : ℕ) (w : List ℕ) (z : ℕ) : Type 0 where

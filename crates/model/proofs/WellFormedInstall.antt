@@ -162,14 +162,22 @@ module _ {Z : ℕ} {w : List ℕ} (f : WellFormed Z w) {z j : ℕ} (hz : z < Z) 
   unfolding installChecks issuer
   issuer-proper = member-proper f (sequencer-below Z z (sequencer w z) (f .head z hz .sequenced)) hj h (search)
 
-  pub issue-proper : ProperIssue Z (issuedAt w z j h p)
-  unfolding installChecks isStableIssue isIssueFor issuedAt
-  issue-proper =
+  -- the entry is stable at its place, and an issue for this shard
+  pub stable-issue : (p < issuer w z j h .stable) × (isIssue (issuedAt w z j h p) ≡ true) × (issueShard (issuedAt w z j h p) ≡ z)
+  unfolding installChecks isStableIssue isIssueFor
+  stable-issue =
       let e = issuedAt w z j h p in
       let t = both (ltb p (issuer w z j h .stable)) (isIssueFor z e) .0 (search) in
       let i = both (isIssue e) (eqb (issueShard e) z) .0 (t .1) in
-      let s : p < issuer w z j h .stable = ltb-true p (issuer w z j h .stable) (t .0) in
-      proper-issue Z e (all-at _ (issuer w z j h .history) p (issuer-proper .entries) (omega (arith, issuer-proper .stable-most))) (i .0)
+      (ltb-true p (issuer w z j h .stable) (t .0), i .0, eqb-true (issueShard e) z (i .1))
+
+  pub issue-proper : ProperIssue Z (issuedAt w z j h p)
+  unfolding issuedAt
+  issue-proper =
+      let s : p < issuer w z j h .stable = stable-issue .0 in
+      proper-issue Z (issuedAt w z j h p)
+      (all-at _ (issuer w z j h .history) p (issuer-proper .entries) (omega (arith, issuer-proper .stable-most)))
+      (stable-issue .1)
 
   pub next-index : issueIndex (issuedAt w z j h p) ≡ installed w z + 1
   unfolding installChecks

@@ -17,7 +17,7 @@ use Rattle.model.specs.WellFormed.{isPart, isSequencer, allDiffer, isHea
 use Rattle.model.specs.Setup.{planSequencer, planMembers, planOrderer, isPlannedShard, isPlan}
 use Rattle.model.specs.Setup.{setupRejection, initialReplica, initialState, afterSetup}
 use Rattle.model.proofs.Tests.{both, all-pass, all-below}
-use Rattle.model.proofs.Places.{length-of-shards}
+use Rattle.model.proofs.Lengths.{length-of-shards}
 use Rattle.model.proofs.Checks.{passed}
 use Rattle.model.proofs.WellFormedParts.{is-proper, replica-part, unused-part}
 use Rattle.model.proofs.WellFormed.{Head, WellFormed, is-well-formed, all-differ}

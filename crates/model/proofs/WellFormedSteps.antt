@@ -60,6 +60,12 @@ after-either P w s here there = go (ℕ-discrete (rejection w s) 0)
     go (yes e) = subst P (sym (after-accepted w s e)) (there e)
     go (no n) = subst P (sym (after-rejected w s n)) here
 
+-- a state that is well-formed stays so
+pub after-formed : {Z : ℕ} {w : List ℕ} → WellFormed Z w → (s : Step) → WellFormed Z (after w s)
+after-formed {Z} {w} f s =
+    after-either (WellFormed Z) w s f
+    (λ e. subst (λ (n : ℕ). WellFormed n (effect w s)) (f .shards) (effect-formed w s (accepted w s e)))
+
 pub step-well-formed : (w : List ℕ) (s : Step) → rejection w s ≡ 0 → wellFormed (after w s) ≡ true
 step-well-formed w s e = rw (after-accepted w s e) (is-well-formed (effect-formed w s (accepted w s e)))
 

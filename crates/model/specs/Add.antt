@@ -7,7 +7,7 @@ use lib.ListN.{length}
 use Rattle.model.specs.Tests.{contains}
 use Rattle.model.specs.Checks.{Check, _orElse_}
 use Rattle.model.specs.Entries.{isIssue, issueShard}
-use Rattle.model.specs.Replicas.{Replica, isActive, added}
+use Rattle.model.specs.Replicas.{Replica, mostEntries, isActive, added}
 use Rattle.model.specs.Layout.{sequencer, isInstalled, putReplica}
 use Rattle.model.specs.Configuration.{configuration, replicaPlace, replicaOf}
 
@@ -29,7 +29,7 @@ addChecks w z j e =
     ∷ isActive (ordererReplica w z j) orElse 12
     ∷ mayIssue w z e orElse 17
     ∷ not (contains e (ordererReplica w z j .history)) orElse 15
-    ∷ ltb (length (ordererReplica w z j .history)) 56 orElse 16
+    ∷ ltb (length (ordererReplica w z j .history)) mostEntries orElse 16
     ∷ []
 
 unfoldable pub addEffect : List ℕ → ℕ → ℕ → ℕ → List ℕ

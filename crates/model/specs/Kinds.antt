@@ -35,6 +35,17 @@ isUnknown Inherit = false
 isUnknown Kept = false
 isUnknown Unknown = true
 
+-- the third number is the box that acts; for add it is an entry, and the orderer acts
+unfoldable pub namesHost : Kind → Bool
+namesHost Add = false
+namesHost Adopt = true
+namesHost Learn = true
+namesHost Wedge = true
+namesHost Install = true
+namesHost Inherit = true
+namesHost Kept = true
+namesHost Unknown = true
+
 -- the table's column "numbers"
 unfoldable pub usedNumbers : Kind → ℕ
 usedNumbers Add = 3

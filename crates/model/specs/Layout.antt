@@ -7,9 +7,23 @@ use lib.Dec.{leb, ltb, eqb}
 use lib.ListN.{getD, take, drop, set}
 use Rattle.model.specs.Replicas.{Replica, readReplica, replicaWords}
 
+-- how many words a shard has, its head, one of its configurations (four replicas), and a replica
+abbrev pub shardWords : ℕ
+shardWords = 2112
+
+abbrev pub headWords : ℕ
+headWords = 64
+
+abbrev pub configurationWords : ℕ
+configurationWords = 256
+
+abbrev pub partWords : ℕ
+partWords = 64
+
 -- the Z of a length 2,112 × Z, Z from 2 to 8; 0 for any other length
 unfoldable pub shardsOf : ℕ → ℕ
-shardsOf n = cond (eqb (n / 2112 * 2112) n && leb 2 (n / 2112) && leb (n / 2112) 8) (n / 2112) 0
+shardsOf n =
+    cond (eqb (n / shardWords * shardWords) n && leb 2 (n / shardWords) && leb (n / shardWords) 8) (n / shardWords) 0
 
 -- rejection 1: "State length is no 2,112 × Z"
 unfoldable pub isStateLength : ℕ → Bool
@@ -17,11 +31,11 @@ isStateLength n = leb 2 (shardsOf n)
 
 -- the place of head word i of shard z
 unfoldable pub headPlace : ℕ → ℕ → ℕ
-headPlace z i = z * 2112 + i
+headPlace z i = z * shardWords + i
 
 -- the place of replica k of configuration j of shard z: "index 1 seats 0 to 3, then index 2, up to index 8"
 unfoldable pub place : ℕ → ℕ → ℕ → ℕ
-place z j k = z * 2112 + 64 + j * 256 + k * 64
+place z j k = z * shardWords + headWords + j * configurationWords + k * partWords
 
 unfoldable pub headWord : List ℕ → ℕ → ℕ → ℕ
 headWord w z i = getD w (headPlace z i) 0
@@ -48,13 +62,13 @@ isInstalled w z j = ltb j (installed w z)
 
 -- a replica's 64 words, the replica that they hold, and the state with another replica there
 unfoldable pub part : List ℕ → ℕ → List ℕ
-part w at = take 64 (drop at w)
+part w at = take partWords (drop at w)
 
 unfoldable pub replicaAt : List ℕ → ℕ → Replica
 replicaAt w at = readReplica (part w at)
 
 unfoldable pub putReplica : List ℕ → ℕ → Replica → List ℕ
-putReplica w at r = take at w ++ (replicaWords r ++ drop (at + 64) w)
+putReplica w at r = take at w ++ (replicaWords r ++ drop (at + partWords) w)
 
 unfoldable pub putHead : List ℕ → ℕ → ℕ → ℕ → List ℕ
 putHead w z i x = set w (headPlace z i) x

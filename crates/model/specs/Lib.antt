@@ -2,6 +2,7 @@
 pub mod Tests
 pub mod Checks
 pub mod Kinds
+pub mod Rules
 pub mod Members
 pub mod Entries
 pub mod Replicas
@@ -34,3 +35,4 @@ pub mod LogRoundTrip
 pub mod StaysWellFormed
 pub mod Marked
 pub mod Results
+pub mod OwnCases

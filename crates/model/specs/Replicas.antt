@@ -11,11 +11,15 @@ pub record Replica : Type 0 where
   pub history : List ℕ
   pub stable : ℕ
 
+-- "list length, 0 to 56"
+abbrev pub mostEntries : ℕ
+mostEntries = 56
+
 -- "Seat word 0: mode .. Word 1: list length .. Word 2: confirmed length. Words 3 to 7: 0. Words 8 to 63: entries, 0 past the length."
 unfoldable pub replicaWords : Replica → List ℕ
 replicaWords r =
     (r .mode ∷ length (r .history) ∷ r .stable ∷ 0 ∷ 0 ∷ 0 ∷ 0 ∷ 0 ∷ [])
-    ++ (r .history ++ replicate (56 - length (r .history)) 0)
+    ++ (r .history ++ replicate (mostEntries - length (r .history)) 0)
 
 -- the replica that 64 words hold
 unfoldable pub readReplica : List ℕ → Replica

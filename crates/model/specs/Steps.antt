@@ -8,7 +8,7 @@ use Rattle.model.specs.declared.kind.Kind.{Kind}
 use Rattle.model.specs.declared.kind.Kind.the-variants.{Add, Adopt, Learn, Wedge, Install, Inherit, Kept, Unknown}
 use Rattle.model.specs.declared.step.Step.{Step}
 use Rattle.model.specs.Checks.{Check, firstOf, _orElse_}
-use Rattle.model.specs.Kinds.{kindOf, isKept, isUnknown}
+use Rattle.model.specs.Kinds.{kindOf, isKept, isUnknown, namesHost}
 use Rattle.model.specs.Members.{isHost}
 use Rattle.model.specs.Entries.{isEntry}
 use Rattle.model.specs.Layout.{shardsOf, isStateLength}
@@ -28,7 +28,7 @@ unfoldable pub configurationOf : Step → ℕ
 configurationOf s = s .b - 1
 
 unfoldable pub actingHost : Step → ℕ → ℕ
-actingHost s o = cond (eqb (s .kind) 1) o (s .c)
+actingHost s o = cond (namesHost (kindOf (s .kind))) (s .c) o
 
 -- the third and fourth number of each kind: "a box above 15, length above 56, place above 55, improper entry, or an unused number not 0"
 unfoldable pub areNumbers : Kind → ℕ → ℕ → ℕ → Bool

@@ -38,16 +38,35 @@ stepLines n w [] = []
 stepLines n w (s ∷ ss) =
     (decimal (suc n) ++ (spaced (s .kind) ++ (spaced (rejection w s) ++ newline))) ++ stepLines (suc n) (after w s) ss
 
+-- the words of the print: `zone`, `ended`, `spent`, `damaged`, `rejected`, `too long`
+abbrev pub zoneWord : List ℕ
+zoneWord = 122 ∷ 111 ∷ 110 ∷ 101 ∷ []
+
+abbrev pub endedWord : List ℕ
+endedWord = 101 ∷ 110 ∷ 100 ∷ 101 ∷ 100 ∷ []
+
+abbrev pub spentWord : List ℕ
+spentWord = 115 ∷ 112 ∷ 101 ∷ 110 ∷ 116 ∷ []
+
+abbrev pub damagedWord : List ℕ
+damagedWord = 100 ∷ 97 ∷ 109 ∷ 97 ∷ 103 ∷ 101 ∷ 100 ∷ []
+
+abbrev pub rejectedWord : List ℕ
+rejectedWord = 114 ∷ 101 ∷ 106 ∷ 101 ∷ 99 ∷ 116 ∷ 101 ∷ 100 ∷ []
+
+abbrev pub tooLongWords : List ℕ
+tooLongWords = 116 ∷ 111 ∷ 111 ∷ 32 ∷ 108 ∷ 111 ∷ 110 ∷ 103 ∷ []
+
 -- "One line a zone: `zone`, number, the confirmed entries of its longest confirmed list"
 unfoldable pub shardLine : List ℕ → ℕ → List ℕ
-shardLine w z = (122 ∷ 111 ∷ 110 ∷ 101 ∷ []) ++ (spaced z ++ (spacedAll (stableHistory w z) ++ newline))
+shardLine w z = zoneWord ++ (spaced z ++ (spacedAll (stableHistory w z) ++ newline))
 
 -- "`ended`, or `damaged` and the refusal"; `spent` and `rejected` cannot occur here (docs/DECISIONS.md)
 unfoldable pub stopText : Stop → List ℕ
-stopText Ended = 101 ∷ 110 ∷ 100 ∷ 101 ∷ 100 ∷ []
-stopText Spent = 115 ∷ 112 ∷ 101 ∷ 110 ∷ 116 ∷ []
-stopText (Damaged r) = (100 ∷ 97 ∷ 109 ∷ 97 ∷ 103 ∷ 101 ∷ 100 ∷ []) ++ spaced r
-stopText (Rejected r) = (114 ∷ 101 ∷ 106 ∷ 101 ∷ 99 ∷ 116 ∷ 101 ∷ 100 ∷ []) ++ spaced r
+stopText Ended = endedWord
+stopText Spent = spentWord
+stopText (Damaged r) = damagedWord ++ spaced r
+stopText (Rejected r) = rejectedWord ++ spaced r
 
 -- "Last: .., then tried, refused, bytes"
 unfoldable pub lastLine : Report → List ℕ
@@ -71,8 +90,11 @@ lines log =
     ++ (shardLine (afterReplay programStart log programBudget) 1 ++ lastLine (report programStart log programBudget)))
 
 -- "up to 16,384 bytes; a longer one prints only `too long`"
+abbrev pub longestLog : ℕ
+longestLog = 16384
+
 unfoldable pub tooLong : List ℕ
-tooLong = 116 ∷ 111 ∷ 111 ∷ 32 ∷ 108 ∷ 111 ∷ 110 ∷ 103 ∷ newline
+tooLong = tooLongWords ++ newline
 
 unfoldable pub transcript : List ℕ → List ℕ
-transcript log = cond (ltb 16384 (length log)) tooLong (lines log)
+transcript log = cond (ltb longestLog (length log)) tooLong (lines log)

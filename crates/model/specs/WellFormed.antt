@@ -7,14 +7,14 @@ use lib.ListN.{length}
 use Rattle.model.specs.Tests.{allBelow, allOf, same}
 use Rattle.model.specs.Members.{size, isConfiguration}
 use Rattle.model.specs.Entries.{isEntry}
-use Rattle.model.specs.Replicas.{Replica, readReplica, replicaWords, isPending}
+use Rattle.model.specs.Replicas.{Replica, mostEntries, readReplica, replicaWords, isPending}
 use Rattle.model.specs.Layout.{shardsOf, place, headWord, sequencer, installed, members, orderer, isInstalled, part}
 
 -- a member's replica: "seats of members have mode 1 to 3 .. a pending seat has an empty list and is not of index 1; confirmed is at most the
 -- length; entries are proper"; "list length, 0 to 56"
 unfoldable pub isReplica : ℕ → ℕ → Replica → Bool
 isReplica Z j r =
-    leb 1 (r .mode) && leb (r .mode) 3 && leb (length (r .history)) 56 && leb (r .stable) (length (r .history))
+    leb 1 (r .mode) && leb (r .mode) 3 && leb (length (r .history)) mostEntries && leb (r .stable) (length (r .history))
     && allOf (isEntry Z) (r .history)
     && (not (isPending r) || (eqb (length (r .history)) 0 && leb 1 j))
 

@@ -1,4 +1,5 @@
 // A configuration by value: where its replicas' words begin, its member set and its orderer.
+use crate::layout::REPLICA_WORDS;
 ghost use mathlib.Core.Path.{_≡_};
 ghost use Prim.Native.Nat.{_+_, _*_, _<_, _^_};
 ghost use Rattle.model.specs.Members.{hasMember, replicaNumber, size};
@@ -32,6 +33,6 @@ impl Configuration {
         ensures { λ r. ⌜ r ≡ replicaPlace self host ⌝ }
     {
         let below = u64::count_ones(self.members % (1 << host));
-        self.place + 64 * (below as usize)
+        self.place + REPLICA_WORDS * (below as usize)
     }
 }

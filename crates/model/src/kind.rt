@@ -1,6 +1,7 @@
-// The kind of a step, told from its number: the one match on kind numbers.
+// The kind of a step, told from its number: the one match on kind numbers, and the one match on kinds that says what their steps have.
 ghost use mathlib.Core.Path.{_≡_};
-ghost use Rattle.model.specs.Kinds.{kindOf, isKept, isUnknown, usedNumbers};
+ghost use Rattle.model.specs.Kinds.{kindOf, usedNumbers};
+ghost use Rattle.model.specs.Rules.{Known, rulesOf, rulesWith, fourthNumbers};
 
 pub enum Kind {
     Add,
@@ -12,6 +13,18 @@ pub enum Kind {
     Kept,
     Unknown,
 }
+
+// What the steps of a kind have: the rejection of the kind (3, 4, or 0), how many numbers it uses, the largest fourth number (0 where it uses
+// none), and whether the third number is the acting host.
+pub struct Rules {
+    pub rejection: u64,
+    pub used: usize,
+    pub fourth: u64,
+    pub host: bool,
+}
+
+// The bits of learn, install and inherit, 3, 5 and 6.
+const FOURTHS: u64 = 104;
 
 impl Kind {
     // The kind that a number names.
@@ -31,51 +44,46 @@ impl Kind {
         }
     }
 
+    // What the steps of this kind have.
+    pub fn rules(self) -> Rules
+        ensures { λ r. ⌜ r ≡ rulesOf self ⌝ }
+    {
+        match self {
+            Kind::Add => row(0, 3, 0, false),
+            Kind::Adopt => row(0, 3, 0, true),
+            Kind::Learn => row(0, 4, 56, true),
+            Kind::Wedge => row(0, 3, 0, true),
+            Kind::Install => row(0, 4, 55, true),
+            Kind::Inherit => row(0, 4, 15, true),
+            Kind::Kept => row(3, 0, 0, true),
+            Kind::Unknown => row(4, 0, 0, true),
+        }
+    }
+
+    // How many fourth numbers the kind of a known number has, 1 or 0, told without a branch: a bit is set for each kind that uses four.
+    pub fn fourths(number: u64) -> u64
+        requires { ⌜ Known (kindOf number) ⌝ }
+        ensures { λ r. ⌜ r ≡ fourthNumbers number ⌝ }
+    {
+        (FOURTHS >> number) % 2
+    }
+
     // How many numbers a step of this kind uses.
     pub fn used(self) -> usize
         ensures { λ r. ⌜ r ≡ usedNumbers self ⌝ }
     {
-        match self {
-            Kind::Add => 3,
-            Kind::Adopt => 3,
-            Kind::Learn => 4,
-            Kind::Wedge => 3,
-            Kind::Install => 4,
-            Kind::Inherit => 4,
-            Kind::Kept => 0,
-            Kind::Unknown => 0,
-        }
+        self.rules().used
     }
+}
 
-    // Whether the kind is kept for later: rejection 3.
-    pub fn is_kept(self) -> bool
-        ensures { λ r. ⌜ r ≡ isKept self ⌝ }
-    {
-        match self {
-            Kind::Add => false,
-            Kind::Adopt => false,
-            Kind::Learn => false,
-            Kind::Wedge => false,
-            Kind::Install => false,
-            Kind::Inherit => false,
-            Kind::Kept => true,
-            Kind::Unknown => false,
-        }
-    }
-
-    // Whether the number is no kind's: rejection 4.
-    pub fn is_unknown(self) -> bool
-        ensures { λ r. ⌜ r ≡ isUnknown self ⌝ }
-    {
-        match self {
-            Kind::Add => false,
-            Kind::Adopt => false,
-            Kind::Learn => false,
-            Kind::Wedge => false,
-            Kind::Install => false,
-            Kind::Inherit => false,
-            Kind::Kept => false,
-            Kind::Unknown => true,
-        }
+// One row of the table of rules.
+fn row(rejection: u64, used: usize, fourth: u64, host: bool) -> Rules
+    ensures { λ r. ⌜ r ≡ rulesWith rejection used fourth host ⌝ }
+{
+    Rules {
+        rejection,
+        used,
+        fourth,
+        host,
     }
 }

@@ -1,7 +1,9 @@
 // The types that every crate shares, and the small functions on them. Their meaning is in `specs/`.
 
 pub mod configuration;
+pub mod entry;
 pub mod kind;
+pub mod layout;
 pub mod step;
 
 // What reading one number of a log gives: its value and its count of bytes, or the rejection (5 or 6).

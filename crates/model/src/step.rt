@@ -24,7 +24,11 @@ impl Step {
     pub fn host(self, orderer: u64) -> u64
         ensures { λ r. ⌜ r ≡ actingHost self orderer ⌝ }
     {
-        if self.kind == 1 { orderer } else { self.c }
+        if Kind::of(self.kind).rules().host {
+            self.c
+        } else {
+            orderer
+        }
     }
 
     // How many numbers the step uses.

@@ -152,6 +152,7 @@ module _ {w₀ log : List ℕ} {budget : ℕ} {w : List ℕ} {at tried rejected 
   rest-step s next h e =
       let d = read-step log at s next e in
       let b : budget - tried ≡ suc (budget - (tried + 1)) = omega arith in
+      let one : ℕ = cond (eqb (rejection w s) 0) 0 1 in
       let least = step-least (drop at log) (d .1) in
       let most : d .0 ≤ length (drop at log) = step-within (drop at log) (d .1) in
       record {
@@ -163,8 +164,8 @@ module _ {w₀ log : List ℕ} {budget : ℕ} {w : List ℕ} {at tried rejected 
             x .report-is
             ∙ ap (λ (n : ℕ). counted tried rejected at (runReport w (drop at log) n)) b
             ∙ ap (counted tried rejected at) (run-step w (drop at log) (budget - (tried + 1)) s (d .0) (d .1))
-            ∙ counted-twice tried rejected at 1 (cond (eqb (rejection w s) 0) 0 1) (d .0) (runReport (after w s) (drop (d .0) (drop at log)) (budget - (tried + 1)))
-            ∙ ap₂ (λ (k : ℕ) (l : List ℕ). counted (tried + 1) (rejected + cond (eqb (rejection w s) 0) 0 1) k (runReport (after w s) l (budget - (tried + 1)))) (sym (d .2)) (there d);
+            ∙ counted-twice tried rejected at 1 one (d .0) (runReport (after w s) (drop (d .0) (drop at log)) (budget - (tried + 1)))
+            ∙ ap₂ (λ (k : ℕ) (l : List ℕ). counted (tried + 1) (rejected + one) k (runReport (after w s) l (budget - (tried + 1)))) (sym (d .2)) (there d);
         state-is =
             x .state-is ∙ ap (afterRun w (drop at log)) b ∙ run-after w (drop at log) (budget - (tried + 1)) s (d .0) (d .1)
             ∙ ap (λ (l : List ℕ). afterRun (after w s) l (budget - (tried + 1))) (there d);

@@ -45,16 +45,16 @@ module _ {w₀ log : List ℕ} {budget : ℕ} {w : List ℕ} {at tried rejected 
       }
 
   -- a rejected step counts, an accepted one does not
-  pub turn-rejected : (a : ℕ) (w′ : List ℕ) → a ≡ rejection w s → w′ ≡ after w s → (a ≡ 0 → ⊥)
-      → Running w₀ log budget w′ next (tried + 1) (rejected + 1)
-  turn-rejected a w′ p q n =
-      rw q
+  pub turn-rejected : (a : ℕ) {w′ : List ℕ} {k : ℕ} → a ≡ rejection w s → w′ ≡ after w s → (a ≡ 0 → ⊥) → k ≡ rejected + 1
+      → Running w₀ log budget w′ next (tried + 1) k
+  turn-rejected a p q n c =
+      rw (q, c)
       (subst (λ (r : ℕ). Running w₀ log budget (after w s) next (tried + 1) (rejected + r))
       (rw (ne-eqb (rejection w s) 0 (λ z. n (p ∙ z)))) stepped)
 
-  pub turn-accepted : (a : ℕ) (w′ : List ℕ) → a ≡ rejection w s → w′ ≡ after w s → a ≡ 0
-      → Running w₀ log budget w′ next (tried + 1) rejected
-  turn-accepted a w′ p q z =
-      rw q
+  pub turn-accepted : (a : ℕ) {w′ : List ℕ} {k : ℕ} → a ≡ rejection w s → w′ ≡ after w s → a ≡ 0 → k ≡ rejected
+      → Running w₀ log budget w′ next (tried + 1) k
+  turn-accepted a p q z c =
+      rw (q, c)
       (subst (λ (r : ℕ). Running w₀ log budget (after w s) next (tried + 1) r)
       (rw (eq-eqb (rejection w s) 0 (sym p ∙ z)) (add-zero rejected)) stepped)

@@ -1,33 +1,51 @@
 -- A replay is rejected, or is the run of its log.
 -- Assumes nothing.
 use Prim.Native.Nat.{ℕ, _≤_}
+use native.Mathlib.Omega.{arith}
 use mathlib.Core.Path.{_≡_, refl, sym, _∙_}
 use mathlib.Core.List.{List, [], _∷_}
 use lib.ListN.{length}
 use borrow.Author.Tests.{leb-true, eq-eqb, ne-eqb}
+use Rattle.model.specs.declared.Report.{Report}
 use Rattle.model.specs.declared.Stop.the-variants.{Rejected}
 use Rattle.model.specs.Checks.{_orElse_}
 use Rattle.model.specs.Layout.{shardsOf, isStateLength}
 use Rattle.model.specs.WellFormed.{wellFormed}
-use Rattle.model.specs.Replay.{afterAll, replayRejection, replayed, report, afterReplay}
+use Rattle.model.specs.Replay.{afterAll, rejectedIn, replayRejection, replayed, report, afterReplay}
+use Rattle.model.specs.Results.{stopNumber, stopCode, replayNumber, replayCode, replayBytes}
 use Rattle.model.proofs.Checks.{passed}
-use Rattle.model.proofs.Places.{length-of-shards}
+use Rattle.model.proofs.Results.{replays}
+use Rattle.lookup.proofs.Formed.{formed-of}
 use Rattle.lookup.specs.Ready.{Formed}
 use Rattle.replay.specs.Run.{reported, runReport, afterRun}
 
-module _ (w log : List ℕ) (budget r : ℕ) (e : r ≡ replayRejection w) where
-  pub rejects : (r ≡ 0 → ⊥) → (reported (Rejected r) 0 0 0 ≡ report w log budget) × (w ≡ afterReplay w log budget)
-  unfolding report afterReplay replayed afterAll
-  rejects n = (rw (sym e, ne-eqb r 0 n), rw (sym e, ne-eqb r 0 n))
+-- what is reported and left, in numbers and as a value
+abbrev pub Reports : List ℕ → List ℕ → ℕ → Report → List ℕ → Type 0
+Reports w log budget r v =
+    (stopNumber (r .stop) ≡ replayNumber w log budget)
+    × ((stopCode (r .stop) ≡ replayCode w log budget)
+    × ((r .tried ≡ length (replayed w log budget))
+    × ((r .rejected ≡ rejectedIn w (replayed w log budget))
+    × ((r .bytes ≡ replayBytes w log budget) × ((r ≡ report w log budget) × (v ≡ afterReplay w log budget))))))
 
-  pub runs : r ≡ 0 → (runReport w log budget ≡ report w log budget) × (afterRun w log budget ≡ afterReplay w log budget)
+-- r is what the test of the state answered
+module _ (w log : List ℕ) (budget : ℕ) {r : ℕ} (e : r ≡ replayRejection w) where
+  reports : {x : Report} {v : List ℕ} → x ≡ report w log budget → v ≡ afterReplay w log budget → Reports w log budget x v
+  reports p q =
+      let t = replays w log budget p in
+      (t .number, (t .code, (t .tried, (t .rejected, (t .bytes, (p, q))))))
+
+  pub rejects : (r ≡ 0 → ⊥) → Reports w log budget (reported (Rejected r) 0 0 0) w
+  unfolding report afterReplay replayed afterAll
+  rejects n = reports (rw (sym e, ne-eqb r 0 n)) (rw (sym e, ne-eqb r 0 n))
+
+  pub runs : r ≡ 0 → {x : Report} {v : List ℕ} → (x ≡ runReport w log budget) × (v ≡ afterRun w log budget) → Reports w log budget x v
   unfolding report afterReplay replayed runReport afterRun
-  runs q = (rw (sym e, eq-eqb r 0 q), rw (sym e, eq-eqb r 0 q))
+  runs z p = reports (p .0 ∙ rw (sym e, eq-eqb r 0 z)) (p .1 ∙ rw (sym e, eq-eqb r 0 z))
 
   pub formed : r ≡ 0 → Formed w
   unfolding replayRejection isStateLength
-  formed q =
-      let p = passed (isStateLength (length w) orElse 1 ∷ wellFormed w orElse 9 ∷ []) refl (sym e ∙ q) in
+  formed z =
+      let p = passed (isStateLength (length w) orElse 1 ∷ wellFormed w orElse 9 ∷ []) refl (sym e ∙ z) in
       let s : 2 ≤ shardsOf (length w) = leb-true 2 (shardsOf (length w)) (p .0) in
-      let l = length-of-shards w (shardsOf (length w)) refl s in
-      record { formed = p .1 .0; several = s; most = l .1; long = l .0 }
+      formed-of w (λ q. omega (arith, s, q)) (p .1 .0)

@@ -3,13 +3,21 @@ use model::Reading;
 use model::Report;
 use model::Stop;
 ghost use mathlib.Core.Path.{_≡_};
-ghost use Rattle.model.specs.Replay.{report, afterReplay};
+ghost use lib.ListN.{length};
+ghost use Rattle.model.specs.Replay.{rejectedIn, replayed, report, afterReplay};
+ghost use Rattle.model.specs.Results.{stopNumber, stopCode, replayNumber, replayCode, replayBytes};
 ghost use Rattle.lookup.specs.Ready.{Formed};
 ghost use Rattle.replay.specs.Run.{reported, runReport, afterRun};
 
 // Replays a log with a budget of steps: how it stopped, the steps tried, those rejected, and the bytes of whole steps.
 pub fn replay(state: &mut [u64], log: &[u8], budget: u64) -> Report
-    ensures { λ r. ⌜ (r ≡ report (now (state .entry)) (now (log .entry)) budget) × (now (state .exit) ≡ afterReplay (now (state .entry)) (now (log .entry)) budget) ⌝ }
+    ensures { λ r. ⌜ stopNumber (r .stop) ≡ replayNumber (now (state .entry)) (now (log .entry)) budget ⌝ }
+    ensures { λ r. ⌜ stopCode (r .stop) ≡ replayCode (now (state .entry)) (now (log .entry)) budget ⌝ }
+    ensures { λ r. ⌜ r .tried ≡ length (replayed (now (state .entry)) (now (log .entry)) budget) ⌝ }
+    ensures { λ r. ⌜ r .rejected ≡ rejectedIn (now (state .entry)) (replayed (now (state .entry)) (now (log .entry)) budget) ⌝ }
+    ensures { λ r. ⌜ r .bytes ≡ replayBytes (now (state .entry)) (now (log .entry)) budget ⌝ }
+    ensures { λ r. ⌜ r ≡ report (now (state .entry)) (now (log .entry)) budget ⌝ }
+    ensures { λ _. ⌜ now (state .exit) ≡ afterReplay (now (state .entry)) (now (log .entry)) budget ⌝ }
 {
     let early = wellformed::state_rejection(state);
     if early != 0 {
@@ -26,7 +34,8 @@ pub fn replay(state: &mut [u64], log: &[u8], budget: u64) -> Report
 // The same on a state that is known to be well-formed.
 fn run(state: &mut [u64], log: &[u8], budget: u64) -> Report
     requires { ⌜ Formed (now state) ⌝ }
-    ensures { λ r. ⌜ (r ≡ runReport (now (state .entry)) (now (log .entry)) budget) × (now (state .exit) ≡ afterRun (now (state .entry)) (now (log .entry)) budget) ⌝ }
+    ensures { λ r. ⌜ r ≡ runReport (now (state .entry)) (now (log .entry)) budget ⌝ }
+    ensures { λ _. ⌜ now (state .exit) ≡ afterRun (now (state .entry)) (now (log .entry)) budget ⌝ }
 {
     let mut at: usize = 0;
     let mut tried: u64 = 0;

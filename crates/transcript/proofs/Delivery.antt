@@ -4,17 +4,20 @@ use Prim.Native.Nat.{ℕ, _+_, _≤_, _<_}
 use native.Mathlib.Nat.{zero-add}
 use native.Mathlib.Omega.{arith}
 use mathlib.Core.Path.{_≡_, refl, _∙_}
-use mathlib.Core.Bool.{Bool, true, false}
 use mathlib.Core.List.{List}
-use lib.Dec.{leb}
+use native.Mathlib.Decide.{decLe}
 use lib.ListN.{length, take, drop, replicate, length-replicate, length-append, length-drop}
 use lib.Seq.{sets, sets-eq, take-at, length-take-le, length-sets}
-use borrow.Author.Tests.{le-leb, lt-leb, leb-true}
+use borrow.Author.Tests.{le-leb, lt-leb}
+use Rattle.model.specs.declared.Writing.{Writing}
 use Rattle.model.specs.declared.Writing.the-variants.{Bytes, Rejected}
+use Rattle.model.specs.Checks.{firstOf}
+use Rattle.model.specs.Results.{writingNumber, writingCount, countBeside}
 use Rattle.model.specs.Transcript.{transcript}
+use Rattle.model.proofs.Results.{counted}
 use Rattle.transcript.specs.Largest.{textMost}
 use Rattle.transcript.proofs.LargestText.{text-most}
-use Rattle.transcript.specs.Text.{textWriting, afterText}
+use Rattle.transcript.specs.Text.{textRejection, textCount, textWriting, afterText}
 
 -- a space of 42,232 bytes has room for every text
 pub space-fits : (log : List ℕ) → length (transcript log) ≤ length (replicate {A = ℕ} textMost 0)
@@ -25,23 +28,50 @@ pub written-first : (space text : List ℕ) → length text ≤ length space →
 written-first space text h =
     rw (sets-eq text space 0 (omega (arith, h))) (take-at text (drop (0 + length text) space) (length text) refl)
 
-module _ (log : List ℕ) {last : List ℕ} {n : ℕ} (p : n ≡ length (transcript log)) (q : last ≡ sets (replicate {A = ℕ} textMost 0) 0 (transcript log)) where
+module _ (log : List ℕ) {last : List ℕ} {n : ℕ}
+    (e : (n ≡ length (transcript log)) × (last ≡ sets (replicate {A = ℕ} textMost 0) 0 (transcript log))) where
   pub written-room : n ≤ length last
-  written-room = rw (q, length-sets (replicate {A = ℕ} textMost 0) 0 (transcript log), p) (space-fits log)
+  written-room = rw (e .1, length-sets (replicate {A = ℕ} textMost 0) 0 (transcript log), e .0) (space-fits log)
 
   pub written-text : take n last ≡ transcript log
-  written-text = rw (p, q) (written-first (replicate {A = ℕ} textMost 0) (transcript log) (space-fits log))
+  written-text = rw (e .0, e .1) (written-first (replicate {A = ℕ} textMost 0) (transcript log) (space-fits log))
 
--- an output keeps its length
-pub text-kept : (out text : List ℕ) → length (afterText out text) ≡ length out
-unfolding afterText
-text-kept out text = go (leb (length text) (length out)) refl
-  where
-    go : (t : Bool) → leb (length text) (length out) ≡ t → length (afterText out text) ≡ length out
-    go true e =
-        let l = leb-true (length text) (length out) e in
-        rw (e, length-append text (drop (length text) out), length-drop (length text) out) (omega (arith, l))
-    go false e = rw e
+-- ---- what is answered and left
+
+module _ (out text : List ℕ) where
+  fits : length text ≤ length out → textRejection out text ≡ 0
+  unfolding textRejection firstOf
+  fits l = rw (le-leb (length text) (length out) l)
+
+  no-room : length out < length text → textRejection out text ≡ 8
+  unfolding textRejection firstOf
+  no-room l = rw (lt-leb (length text) (length out) l)
+
+  -- in numbers and as a value
+  pub told : {r : Writing} {v : List ℕ} → (r ≡ textWriting out text) × (v ≡ afterText out text)
+      → (writingNumber r ≡ textRejection out text)
+      × ((writingCount r ≡ textCount out text) × ((r ≡ textWriting out text) × (v ≡ afterText out text)))
+  unfolding textWriting textCount
+  told e = let c = counted (textRejection out text) text (e .0) in (c .0, (c .1, e))
+
+  -- an output keeps its length
+  pub text-kept : length (afterText out text) ≡ length out
+  unfolding afterText
+  text-kept =
+      elim (decLe (length text) (length out)) [
+        | yes l ↦
+            rw (fits l, length-append text (drop (length text) out), length-drop (length text) out) (omega (arith, l))
+        | no l ↦ rw (no-room (omega (arith, l)))
+      ]
+
+  -- a text that was written fits the output
+  pub fits-output : {n : ℕ} → n ≡ textCount out text → n ≤ length out
+  unfolding textCount countBeside
+  fits-output e =
+      elim (decLe (length text) (length out)) [
+        | yes l ↦ omega (arith, l, rw (fits l) at e)
+        | no l ↦ omega (arith, rw (no-room (omega (arith, l))) at e)
+      ]
 
 module _ (out space : List ℕ) (n : ℕ) (h : n ≤ length space) where
   pub long : length (take n space) ≡ n
@@ -49,26 +79,16 @@ module _ (out space : List ℕ) (n : ℕ) (h : n ≤ length space) where
 
   pub too-short : length out < n → (Rejected 8 ≡ textWriting out (take n space)) × (out ≡ afterText out (take n space))
   unfolding textWriting afterText
-  too-short l = (rw (long, lt-leb n (length out) l), rw (long, lt-leb n (length out) l))
+  too-short l =
+      let e = no-room out (take n space) (omega (arith, l, long)) in
+      (rw e, rw e)
 
   module _ (l : n ≤ length out) where
     pub room : 0 + length (take n space) ≤ length out
     room = omega (arith, long)
 
-    pub delivered : (Bytes n ≡ textWriting out (take n space)) × (sets out 0 (take n space) ≡ afterText out (take n space))
+    pub delivered : {v : List ℕ} → v ≡ sets out 0 (take n space) → (Bytes n ≡ textWriting out (take n space)) × (v ≡ afterText out (take n space))
     unfolding textWriting afterText
-    delivered = (
-      rw (long, le-leb n (length out) l),
-      sets-eq (take n space) out 0 room ∙ rw (long, le-leb n (length out) l, zero-add n),
-    )
-
--- a text that was written fits the output
-pub fits-output : (out text : List ℕ) {n : ℕ} → Bytes n ≡ textWriting out text → n ≤ length out
-unfolding textWriting
-fits-output out text {n} e = go (leb (length text) (length out)) refl
-  where
-    go : (t : Bool) → leb (length text) (length out) ≡ t → n ≤ length out
-    go true p =
-        let same : n ≡ length text = cc in
-        omega (arith, same, leb-true (length text) (length out) p)
-    go false p = absurd (let z : _≡_ {A = ℕ} 0 1 = cc in omega arith)
+    delivered f =
+        let e = fits out (take n space) (omega (arith, l, long)) in
+        (rw (e, long), f ∙ sets-eq (take n space) out 0 room ∙ rw (e, zero-add (length (take n space))))

@@ -9,7 +9,7 @@ use lib.ListN.{length, length-append}
 use borrow.Author.Tests.{ltb-false}
 use Rattle.model.specs.Log.{Log, readLog}
 use Rattle.model.specs.Replay.{replayed, report, afterReplay}
-use Rattle.model.specs.Transcript.{stepLines, lastLine, programStart, programBudget, lines, tooLong, transcript}
+use Rattle.model.specs.Transcript.{stepLines, lastLine, programStart, programBudget, lines, longestLog, tooLong, transcript}
 use Rattle.model.proofs.WellFormed.{WellFormed}
 use Rattle.model.proofs.ProgramStart.{start-formed}
 use Rattle.replay.specs.Run.{runReport}
@@ -18,7 +18,7 @@ use Rattle.transcript.proofs.LogSizes.{SizedLog, log-sized}
 use Rattle.transcript.proofs.ReplayedState.{formed-replayed, formed-report, formed-after, rejected-most}
 use Rattle.transcript.proofs.LineSizes.{step-lines-width, shard-line-most, last-line-width}
 
-module _ (log : List ℕ) (h : length log ≤ 16384) where
+module _ (log : List ℕ) (h : length log ≤ longestLog) where
   abbrev readTo : Log
   readTo = readLog programBudget log
 
@@ -50,8 +50,8 @@ module _ (log : List ℕ) (h : length log ≤ 16384) where
 
 pub text-most : LargestText
 unfolding transcript tooLong
-text-most log = go (ltb 16384 (length log)) refl
+text-most log = go (ltb longestLog (length log)) refl
   where
-    go : (t : Bool) → ltb 16384 (length log) ≡ t → length (cond t tooLong (lines log)) ≤ textMost
+    go : (t : Bool) → ltb longestLog (length log) ≡ t → length (cond t tooLong (lines log)) ≤ textMost
     go true e = omega arith
-    go false e = lines-most log (ltb-false 16384 (length log) e)
+    go false e = lines-most log (ltb-false longestLog (length log) e)

@@ -5,7 +5,6 @@ pub mod Digits
 -- Bytes and words
 pub mod StopTexts
 pub mod Stores
-pub mod Chains
 -- The lines
 pub mod ShardText
 pub mod RunLines

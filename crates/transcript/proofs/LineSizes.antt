@@ -17,7 +17,7 @@ use Rattle.model.specs.Steps.{rejection, after}
 use Rattle.model.specs.StableHistory.{stableHistory}
 use Rattle.model.specs.Transcript.{decimal, spaced, spacedAll, stepLines, shardLine, stopText, lastLine}
 use Rattle.model.proofs.AllOf.{all-head, all-tail}
-use Rattle.model.proofs.Places.{length-of-shards}
+use Rattle.model.proofs.Lengths.{length-of-shards}
 use Rattle.model.proofs.WellFormed.{WellFormed}
 use Rattle.transcript.proofs.Decimal.{decimal-width}
 use Rattle.transcript.proofs.LogSizes.{KnownKinds, LogStop}

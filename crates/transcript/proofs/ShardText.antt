@@ -2,19 +2,16 @@
 -- Assumes nothing.
 use Prim.Native.Nat.{ℕ, _+_, _≤_}
 use mathlib.Core.Path.{_≡_}
-use mathlib.Core.List.{List, [], _∷_, _++_}
+use mathlib.Core.List.{List, _++_}
 use lib.ListN.{length}
-use Rattle.model.specs.Transcript.{spaced, spacedAll, newline, shardLine}
+use Rattle.model.specs.Transcript.{spaced, spacedAll, newline, zoneWord, shardLine}
 use Rattle.histories.specs.Entries.{entriesAt}
 use Rattle.histories.specs.History.{longestPlace, OfShard}
 use Rattle.histories.proofs.Longest.{longest}
 use Rattle.transcript.specs.Text.{EntriesRoom}
 
-abbrev pub zone : List ℕ
-zone = 122 ∷ 111 ∷ 110 ∷ 101 ∷ []
-
 module _ {w : List ℕ} {z p : ℕ} (f : OfShard w z) (e : p ≡ longestPlace w z 31) where
-  pub shard-text : shardLine w z ≡ zone ++ (spaced z ++ (spacedAll (entriesAt w p) ++ newline))
+  pub shard-text : shardLine w z ≡ zoneWord ++ (spaced z ++ (spacedAll (entriesAt w p) ++ newline))
   unfolding shardLine
   shard-text = rw (e, longest f .entries)
 

@@ -3,11 +3,11 @@
 use Prim.Native.Nat.{ℕ, suc, _+_, _≤_, _<_}
 use native.Mathlib.Omega.{arith}
 use mathlib.Core.Path.{_≡_, refl, ap, _∙_}
-use mathlib.Core.List.{List, [], _++_}
+use mathlib.Core.List.{List, _++_}
 use lib.ListN.{length, getD, drop, drop-of-length-le, set, length-set}
 use lib.Seq.{sets, length-sets, drop-cons}
 use Rattle.model.specs.Transcript.{decimal, spaced, spacedAll}
-use Rattle.log.proofs.Progress.{Progress, progress-first, progress-room, progress-next, progress-end, progress-done}
+use Rattle.log.proofs.Progress.{Progress, progress-first, progress-room, progress-next, progress-end}
 
 -- stores keep the length
 pub sets-kept : {out′ : List ℕ} (out : List ℕ) (at : ℕ) (t : List ℕ) → out′ ≡ sets out at t → length out′ ≡ length out
@@ -53,11 +53,10 @@ spaced-stores out at n = let one : at + 1 ≡ suc at = omega arith in rw one
 -- i of several numbers were written
 pub record Listed (out₀ : List ℕ) (at : ℕ) (numbers out : List ℕ) (end i : ℕ) : Type 0 where
   pub within : i ≤ length numbers
-  pub kept : length out ≡ length out₀
   pub rest : Progress out₀ at (spacedAll numbers) out end (spacedAll (drop i numbers))
 
 pub list-start : (out : List ℕ) (at : ℕ) (numbers : List ℕ) → at + length (spacedAll numbers) ≤ length out → Listed out at numbers out at 0
-list-start out at numbers r = record { within = omega arith; kept = refl; rest = progress-first out at (spacedAll numbers) r }
+list-start out at numbers r = record { within = omega arith; rest = progress-first out at (spacedAll numbers) r }
 
 module _ {out₀ : List ℕ} {at : ℕ} {numbers out : List ℕ} {end i : ℕ} (t : Listed out₀ at numbers out end i) where
   module _ (h : i < length numbers) where
@@ -71,18 +70,16 @@ module _ {out₀ : List ℕ} {at : ℕ} {numbers out : List ℕ} {end i : ℕ} (
     pub list-room : end + length (spaced (getD numbers i 0)) ≤ length out
     list-room = progress-room (spaced (getD numbers i 0)) (spacedAll (drop (suc i) numbers)) now-rest
 
-    pub list-more : {out′ : List ℕ} {end′ : ℕ} → end′ ≡ end + length (spaced (getD numbers i 0)) → out′ ≡ sets out end (spaced (getD numbers i 0))
+    pub list-more : {out′ : List ℕ} {end′ : ℕ}
+        → (end′ ≡ end + length (spaced (getD numbers i 0))) × (out′ ≡ sets out end (spaced (getD numbers i 0)))
         → Listed out₀ at numbers out′ end′ (i + 1)
-    list-more e f =
+    list-more e =
         let one : i + 1 ≡ suc i = omega arith in
         record {
           within = omega arith;
-          kept = rw f (length-sets out end (spaced (getD numbers i 0)) ∙ t .kept);
-          rest = rw one (progress-next (spaced (getD numbers i 0)) (spacedAll (drop (suc i) numbers)) now-rest e f);
+          rest = rw one (progress-next (spaced (getD numbers i 0)) (spacedAll (drop (suc i) numbers)) now-rest e);
         }
 
   pub list-end : length numbers ≤ i → (end ≡ at + length (spacedAll numbers)) × (out ≡ sets out₀ at (spacedAll numbers))
   unfolding spacedAll
-  list-end h =
-      let r : Progress out₀ at (spacedAll numbers) out end [] = rw (drop-of-length-le numbers h) at (t .rest) in
-      (progress-end r, progress-done r)
+  list-end h = progress-end (rw (drop-of-length-le numbers h) at (t .rest))

@@ -2,6 +2,7 @@
 use crate::bytes::write_bytes;
 use crate::number::write_newline;
 use crate::number::write_spaced;
+use crate::number::write_word;
 use model::Stop;
 ghost use mathlib.Core.Path.{_≡_};
 ghost use Prim.Native.Nat.{_+_, _≤_};
@@ -20,7 +21,8 @@ pub fn write_last(
     bytes: u64,
 ) -> usize
     requires { ⌜ at + length (lastLine (reported stop tried rejected bytes)) ≤ length (now out) ⌝ }
-    ensures { λ r. ⌜ (r ≡ at + length (lastLine (reported stop tried rejected bytes))) × (now (out .exit) ≡ sets (now (out .entry)) at (lastLine (reported stop tried rejected bytes))) ⌝ }
+    ensures { λ r. ⌜ r ≡ at + length (lastLine (reported stop tried rejected bytes)) ⌝ }
+    ensures { λ _. ⌜ now (out .exit) ≡ sets (now (out .entry)) at (lastLine (reported stop tried rejected bytes)) ⌝ }
 {
     let a = write_stop(out, at, stop);
     let b = write_spaced(out, a, tried);
@@ -32,18 +34,13 @@ pub fn write_last(
 // How a replay stopped, and the number of its rejection where there is one.
 fn write_stop(out: &mut [u8], at: usize, stop: Stop) -> usize
     requires { ⌜ at + length (stopText stop) ≤ length (now out) ⌝ }
-    ensures { λ r. ⌜ (r ≡ at + length (stopText stop)) × (now (out .exit) ≡ sets (now (out .entry)) at (stopText stop)) ⌝ }
+    ensures { λ r. ⌜ r ≡ at + length (stopText stop) ⌝ }
+    ensures { λ _. ⌜ now (out .exit) ≡ sets (now (out .entry)) at (stopText stop) ⌝ }
 {
     match stop {
         Stop::Ended => write_bytes(out, at, b"ended"),
         Stop::Spent => write_bytes(out, at, b"spent"),
-        Stop::Damaged(r) => {
-            let a = write_bytes(out, at, b"damaged");
-            write_spaced(out, a, r)
-        }
-        Stop::Rejected(r) => {
-            let a = write_bytes(out, at, b"rejected");
-            write_spaced(out, a, r)
-        }
+        Stop::Damaged(r) => write_word(out, at, b"damaged", r),
+        Stop::Rejected(r) => write_word(out, at, b"rejected", r),
     }
 }

@@ -4,7 +4,8 @@ ghost use mathlib.Core.Path.{_≡_};
 ghost use Prim.Native.Nat.{_≤_};
 ghost use lib.ListN.{length as count, take};
 ghost use Rattle.model.specs.Transcript.{transcript};
-ghost use Rattle.transcript.specs.Text.{textWriting, afterText};
+ghost use Rattle.model.specs.Results.{writingNumber, writingCount};
+ghost use Rattle.transcript.specs.Text.{textRejection, textCount, textWriting, afterText};
 
 mod bytes;
 mod last;
@@ -18,7 +19,10 @@ pub const MOST: usize = 42232;
 
 // Writes the text of a log: its length, or rejection 8 where the output is too short, which leaves it untouched.
 pub fn transcript(log: &[u8], out: &mut [u8]) -> Writing
-    ensures { λ r. ⌜ (r ≡ textWriting (now (out .entry)) (transcript (now (log .entry)))) × (now (out .exit) ≡ afterText (now (out .entry)) (transcript (now (log .entry)))) ⌝ }
+    ensures { λ r. ⌜ writingNumber r ≡ textRejection (now (out .entry)) (transcript (now (log .entry))) ⌝ }
+    ensures { λ r. ⌜ writingCount r ≡ textCount (now (out .entry)) (transcript (now (log .entry))) ⌝ }
+    ensures { λ r. ⌜ r ≡ textWriting (now (out .entry)) (transcript (now (log .entry))) ⌝ }
+    ensures { λ _. ⌜ now (out .exit) ≡ afterText (now (out .entry)) (transcript (now (log .entry))) ⌝ }
 {
     let mut space = [0u8; MOST];
     let length = text::write_text(log, &mut space);
@@ -28,7 +32,8 @@ pub fn transcript(log: &[u8], out: &mut [u8]) -> Writing
 // Hands a text, the first `length` bytes of a space, to an output that is long enough.
 fn deliver(out: &mut [u8], space: &[u8], length: usize) -> Writing
     requires { ⌜ length ≤ count (now space) ⌝ }
-    ensures { λ r. ⌜ (r ≡ textWriting (now (out .entry)) (take length (now (space .entry)))) × (now (out .exit) ≡ afterText (now (out .entry)) (take length (now (space .entry)))) ⌝ }
+    ensures { λ r. ⌜ r ≡ textWriting (now (out .entry)) (take length (now (space .entry))) ⌝ }
+    ensures { λ _. ⌜ now (out .exit) ≡ afterText (now (out .entry)) (take length (now (space .entry))) ⌝ }
 {
     if out.len() < length {
         return Writing::Rejected(8);

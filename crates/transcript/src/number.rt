@@ -1,5 +1,7 @@
 // Numbers in decimal.
+use crate::bytes::write_bytes;
 ghost use mathlib.Core.Path.{_≡_};
+ghost use mathlib.Core.List.{_++_};
 ghost use Prim.Native.Nat.{_+_, _≤_};
 ghost use lib.ListN.{length};
 ghost use lib.Seq.{sets};
@@ -21,7 +23,8 @@ pub fn width(n: u64) -> usize
 // Writes a number where the output has room for it, its last digit first, and returns the position after it.
 pub fn write_number(out: &mut [u8], at: usize, n: u64) -> usize
     requires { ⌜ at + length (decimal n) ≤ length (now out) ⌝ }
-    ensures { λ r. ⌜ (r ≡ at + length (decimal n)) × (now (out .exit) ≡ sets (now (out .entry)) at (decimal n)) ⌝ }
+    ensures { λ r. ⌜ r ≡ at + length (decimal n) ⌝ }
+    ensures { λ _. ⌜ now (out .exit) ≡ sets (now (out .entry)) at (decimal n) ⌝ }
 {
     let end = at + width(n);
     let mut rest = n;
@@ -38,16 +41,28 @@ pub fn write_number(out: &mut [u8], at: usize, n: u64) -> usize
 // A space and a number.
 pub fn write_spaced(out: &mut [u8], at: usize, n: u64) -> usize
     requires { ⌜ at + length (spaced n) ≤ length (now out) ⌝ }
-    ensures { λ r. ⌜ (r ≡ at + length (spaced n)) × (now (out .exit) ≡ sets (now (out .entry)) at (spaced n)) ⌝ }
+    ensures { λ r. ⌜ r ≡ at + length (spaced n) ⌝ }
+    ensures { λ _. ⌜ now (out .exit) ≡ sets (now (out .entry)) at (spaced n) ⌝ }
 {
     out[at] = 32;
     write_number(out, at + 1, n)
 }
 
+// A word, a space and a number.
+pub fn write_word(out: &mut [u8], at: usize, word: &[u8], n: u64) -> usize
+    requires { ⌜ at + length (now word ++ spaced n) ≤ length (now out) ⌝ }
+    ensures { λ r. ⌜ r ≡ at + length (now (word .entry) ++ spaced n) ⌝ }
+    ensures { λ _. ⌜ now (out .exit) ≡ sets (now (out .entry)) at (now (word .entry) ++ spaced n) ⌝ }
+{
+    let a = write_bytes(out, at, word);
+    write_spaced(out, a, n)
+}
+
 // A space before each of several numbers.
 pub fn write_all_spaced(out: &mut [u8], at: usize, numbers: &[u64]) -> usize
     requires { ⌜ at + length (spacedAll (now numbers)) ≤ length (now out) ⌝ }
-    ensures { λ r. ⌜ (r ≡ at + length (spacedAll (now (numbers .entry)))) × (now (out .exit) ≡ sets (now (out .entry)) at (spacedAll (now (numbers .entry)))) ⌝ }
+    ensures { λ r. ⌜ r ≡ at + length (spacedAll (now (numbers .entry))) ⌝ }
+    ensures { λ _. ⌜ now (out .exit) ≡ sets (now (out .entry)) at (spacedAll (now (numbers .entry))) ⌝ }
 {
     let mut end = at;
     let mut i = 0;
@@ -61,7 +76,8 @@ pub fn write_all_spaced(out: &mut [u8], at: usize, numbers: &[u64]) -> usize
 // The end of a line.
 pub fn write_newline(out: &mut [u8], at: usize) -> usize
     requires { ⌜ at + 1 ≤ length (now out) ⌝ }
-    ensures { λ r. ⌜ (r ≡ at + 1) × (now (out .exit) ≡ sets (now (out .entry)) at (newline)) ⌝ }
+    ensures { λ r. ⌜ r ≡ at + 1 ⌝ }
+    ensures { λ _. ⌜ now (out .exit) ≡ sets (now (out .entry)) at (newline) ⌝ }
 {
     out[at] = 10;
     at + 1

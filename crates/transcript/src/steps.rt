@@ -8,8 +8,12 @@ ghost use mathlib.Core.Path.{_≡_};
 ghost use Prim.Native.Nat.{_+_, _≤_};
 ghost use lib.ListN.{length};
 ghost use lib.Seq.{sets};
+ghost use Rattle.model.specs.Transcript.{programBudget};
 ghost use Rattle.replay.specs.Run.{afterRun};
 ghost use Rattle.transcript.specs.Text.{stepLine, runLines, printedAs, printed, RunRoom};
+
+// How many steps the program tries at most.
+const BUDGET: u64 = 65535;
 
 // What the lines of the steps give: how the run stopped, its counts, and the position after the text.
 pub struct Printed {
@@ -20,16 +24,18 @@ pub struct Printed {
     pub end: usize,
 }
 
-// Tries the steps of a log, at most 65,535, and writes a line for each from the start of the output.
+// Tries the steps of a log, as many as the budget allows, and writes a line for each from the start of the output.
 pub fn write_steps(state: &mut [u64], log: &[u8], out: &mut [u8]) -> Printed
     requires { ⌜ RunRoom (now state) (now log) (now out) ⌝ }
-    ensures { λ r. ⌜ (r ≡ printed (now (state .entry)) (now (log .entry))) × (now (state .exit) ≡ afterRun (now (state .entry)) (now (log .entry)) 65535) × (now (out .exit) ≡ sets (now (out .entry)) 0 (runLines (now (state .entry)) (now (log .entry)))) ⌝ }
+    ensures { λ r. ⌜ r ≡ printed (now (state .entry)) (now (log .entry)) ⌝ }
+    ensures { λ _. ⌜ now (state .exit) ≡ afterRun (now (state .entry)) (now (log .entry)) programBudget ⌝ }
+    ensures { λ _. ⌜ now (out .exit) ≡ sets (now (out .entry)) 0 (runLines (now (state .entry)) (now (log .entry))) ⌝ }
 {
     let mut at: usize = 0;
     let mut tried: u64 = 0;
     let mut rejected: u64 = 0;
     let mut end: usize = 0;
-    while tried < 65535 {
+    while tried < BUDGET {
         match log::reader::read_step(log, at) {
             Reading::Step { step, next } => {
                 let kind = step.kind;
@@ -58,7 +64,8 @@ pub fn write_steps(state: &mut [u64], log: &[u8], out: &mut [u8]) -> Printed
 // The line of a step: its number from 1, its kind, its rejection or 0.
 fn write_line(out: &mut [u8], at: usize, n: u64, kind: u64, answer: u64) -> usize
     requires { ⌜ at + length (stepLine n kind answer) ≤ length (now out) ⌝ }
-    ensures { λ r. ⌜ (r ≡ at + length (stepLine n kind answer)) × (now (out .exit) ≡ sets (now (out .entry)) at (stepLine n kind answer)) ⌝ }
+    ensures { λ r. ⌜ r ≡ at + length (stepLine n kind answer) ⌝ }
+    ensures { λ _. ⌜ now (out .exit) ≡ sets (now (out .entry)) at (stepLine n kind answer) ⌝ }
 {
     let a = write_number(out, at, n);
     let b = write_spaced(out, a, kind);

@@ -14,10 +14,10 @@ use Rattle.model.specs.Members.{isConfiguration}
 use Rattle.model.specs.Layout.{place, isInstalled, part}
 use Rattle.model.specs.WellFormed.{isPart, isHeadOf, isConfigurationOf}
 use Rattle.model.proofs.Tests.{all-below, below-all}
-use Rattle.wellformed.proofs.Ranges.{same-test, alike}
+use Rattle.model.proofs.Ranges.{same-test, alike}
 use Rattle.wellformed.proofs.Zeros.{zeros, part-length, zeros-at}
 use Rattle.wellformed.proofs.Words.{unused-words}
-use Rattle.wellformed.proofs.Heads.{installed-word, members-word, orderer-word}
+use Rattle.model.proofs.Heads.{installed-word, members-word, orderer-word}
 
 -- ---- four parts in a row
 

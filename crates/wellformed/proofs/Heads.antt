@@ -1,24 +1,17 @@
--- Where the code reads the head words of a shard.
-use Prim.Native.Nat.{ℕ, _+_, _*_}
-use native.Mathlib.Nat.{add-zero, add-assoc}
-use mathlib.Core.Path.{_≡_, refl}
+-- The sequencers of a state stand at the distance of a shard's words.
+use Prim.Native.Nat.{ℕ, _*_}
+use native.Mathlib.Omega.{arith}
+use mathlib.Core.Path.{_≡_, ap, fun-ext}
 use mathlib.Core.List.{List}
-use lib.ListN.{getD}
-use Rattle.model.specs.Layout.{headPlace, headWord, sequencer, installed, members, orderer}
+use lib.ListN.{length, getD}
+use Rattle.model.specs.Layout.{shardWords, shardsOf, sequencer}
+use Rattle.model.specs.WellFormed.{allDiffer}
+use Rattle.model.proofs.Heads.{sequencer-word}
+use Rattle.model.proofs.Lengths.{shards-fit}
+use Rattle.wellformed.specs.Spaced.{Spaced}
 
-module _ (w : List ℕ) (z : ℕ) where
-  pub sequencer-word : sequencer w z ≡ getD w (z * 2112) 0
-  unfolding sequencer headWord headPlace
-  sequencer-word = rw add-zero
+pub sequencers-spaced : (w : List ℕ) → Spaced w shardWords (shardsOf (length w))
+sequencers-spaced w = record { within = λ k h. omega (arith, shards-fit (length w)) }
 
-  pub installed-word : installed w z ≡ getD w (z * 2112 + 1) 0
-  unfolding installed headWord headPlace
-  installed-word = refl
-
-  pub members-word : (j : ℕ) → members w z j ≡ getD w (z * 2112 + 2 + j) 0
-  unfolding members headWord headPlace
-  members-word j = rw add-assoc
-
-  pub orderer-word : (j : ℕ) → orderer w z j ≡ getD w (z * 2112 + 10 + j) 0
-  unfolding orderer headWord headPlace
-  orderer-word j = rw add-assoc
+pub sequencers-differ : (w : List ℕ) (Z : ℕ) → allDiffer Z (sequencer w) ≡ allDiffer Z (λ z. getD w (z * shardWords) 0)
+sequencers-differ w Z = ap (allDiffer Z) (fun-ext (sequencer-word w))

@@ -1,9 +1,7 @@
 -- The laws that the proofs of the functions cite.
-pub mod Ranges
 pub mod Zeros
 pub mod Words
 pub mod Heads
 pub mod Configurations
 pub mod Shards
-pub mod Lengths
 pub mod Takes

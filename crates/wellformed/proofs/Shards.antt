@@ -10,9 +10,9 @@ use borrow.Author.Tests.{le-leb, lt-leb}
 use Rattle.model.specs.Tests.{allBelow}
 use Rattle.model.specs.Layout.{headPlace, headWord}
 use Rattle.model.specs.WellFormed.{isSequencer, isConfigurationOf, isShard}
-use Rattle.wellformed.proofs.Ranges.{alike}
+use Rattle.model.proofs.Ranges.{alike}
 use Rattle.wellformed.proofs.Zeros.{zeros, zeros-at}
-use Rattle.wellformed.proofs.Heads.{sequencer-word, installed-word}
+use Rattle.model.proofs.Heads.{sequencer-word, installed-word}
 use Rattle.wellformed.proofs.Configurations.{countWord}
 
 -- the head words past those of the configurations

@@ -11,7 +11,7 @@ use borrow.Author.Tests.{ltb-true, lt-ltb, leb-true, le-leb}
 use Rattle.model.specs.Tests.{allBelow, allOf}
 use Rattle.model.specs.Entries.{isTake, isProperIssue, isEntry}
 use Rattle.model.proofs.Tests.{both}
-use Rattle.wellformed.proofs.Ranges.{same-test, one-more}
+use Rattle.model.proofs.Ranges.{same-test, one-more}
 
 -- joined words are below 2 ^ 32 where both are
 or-below : (a b : ℕ) → ltb (bitOr a b) 4294967296 ≡ (ltb a 4294967296 && ltb b 4294967296)

@@ -14,7 +14,7 @@ use Rattle.model.specs.Replicas.{readReplica, replicaWords, isPending, unused}
 use Rattle.model.specs.WellFormed.{isReplica, isPart}
 use Rattle.model.proofs.Tests.{both}
 use Rattle.model.proofs.WellFormedParts.{same-self, Proper, is-proper, part-is-words, part-proper, part-vacant, unused-part}
-use Rattle.wellformed.proofs.Ranges.{same-test}
+use Rattle.model.proofs.Ranges.{same-test}
 use Rattle.wellformed.proofs.Zeros.{zeros, zeros-replicate, replicate-zeros}
 
 -- what a member's replica in configuration j, of Z shards, has in its words

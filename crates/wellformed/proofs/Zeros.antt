@@ -11,7 +11,7 @@ use lib.Seq.{length-take-le, take-all, getD-take, getD-drop, ext-getD}
 use borrow.Author.Tests.{eqb-true, eq-eqb}
 use Rattle.model.specs.Tests.{allBelow}
 use Rattle.model.proofs.Tests.{both, all-below, below-all}
-use Rattle.wellformed.proofs.Ranges.{same-test, one-more, alike}
+use Rattle.model.proofs.Ranges.{same-test, one-more, alike}
 
 -- all words of a list are 0
 abbrev pub zeros : List ℕ → Bool

@@ -1,23 +1,31 @@
 // A configuration: its head words and its four replicas.
 use crate::members;
 use crate::replica;
+use model::configuration::Configuration;
+use model::layout::CONFIGURATION_WORDS;
+use model::layout::HEAD_WORDS;
+use model::layout::INSTALLED;
+use model::layout::MEMBERS;
+use model::layout::ORDERERS;
+use model::layout::REPLICA_WORDS;
+use model::layout::SHARD_WORDS;
 ghost use mathlib.Core.Path.{_≡_};
 ghost use Prim.Native.Nat.{_+_, _*_, _≤_, _<_};
 ghost use lib.Dec.{ltb};
 ghost use lib.ListN.{length};
 ghost use Rattle.model.specs.Tests.{allBelow};
-ghost use Rattle.model.specs.Layout.{part};
+ghost use Rattle.model.specs.Layout.{shardWords, configurationWords, partWords, part};
 ghost use Rattle.model.specs.WellFormed.{isPart, isConfigurationOf};
 
 // Whether the four replicas at a place are those of configuration j, the first `size` of them members'.
 pub fn all_parts(state: &[u64], shards: usize, j: usize, place: usize, size: usize) -> bool
-    requires { ⌜ place + 256 ≤ length (now state) ⌝ }
-    ensures { λ r. ⌜ r ≡ allBelow 4 (λ k. isPart shards j (ltb k size) (part (now (state .entry)) (place + k * 64))) ⌝ }
+    requires { ⌜ place + configurationWords ≤ length (now state) ⌝ }
+    ensures { λ r. ⌜ r ≡ allBelow 4 (λ k. isPart shards j (ltb k size) (part (now (state .entry)) (place + k * partWords))) ⌝ }
 {
     let mut k = 0;
     while k < 4 {
-        let from = place + k * 64;
-        let end = from + 64;
+        let from = place + k * REPLICA_WORDS;
+        let end = from + REPLICA_WORDS;
         if !replica::is_part(&state[from..end], shards, j, k < size) {
             return false;
         }
@@ -28,32 +36,35 @@ pub fn all_parts(state: &[u64], shards: usize, j: usize, place: usize, size: usi
 
 // Whether configuration j of shard z is well-formed.
 pub fn is_configuration_of(state: &[u64], shards: usize, z: usize, j: usize) -> bool
-    requires { ⌜ (z * 2112 + 2112 ≤ length (now state)) × (j < 8) ⌝ }
+    requires { ⌜ (z * shardWords + shardWords ≤ length (now state)) × (j < 8) ⌝ }
     ensures { λ r. ⌜ r ≡ isConfigurationOf (now (state .entry)) shards z j ⌝ }
 {
-    let at = z * 2112;
-    let place = at + 64 + j * 256;
-    let members = state[at + 2 + j];
-    let orderer = state[at + 10 + j];
-    if (j as u64) < state[at + 1] {
-        if !members::is_configuration(members, orderer) {
+    let at = z * SHARD_WORDS;
+    let c = Configuration {
+        place: at + HEAD_WORDS + j * CONFIGURATION_WORDS,
+        members: state[at + MEMBERS + j],
+        orderer: state[at + ORDERERS + j],
+    };
+    let place = c.place;
+    if (j as u64) < state[at + INSTALLED] {
+        if !members::is_configuration(c.members, c.orderer) {
             return false;
         }
-        return all_parts(state, shards, j, place, members::size(members));
+        return all_parts(state, shards, j, place, c.size() as usize);
     }
-    if members != 0 {
+    if c.members != 0 {
         return false;
     }
-    if orderer != 0 {
+    if c.orderer != 0 {
         return false;
     }
-    let end = place + 256;
+    let end = place + CONFIGURATION_WORDS;
     replica::all_zero(&state[place..end])
 }
 
 // Whether the eight configurations of shard z are well-formed.
 pub fn all_configurations(state: &[u64], shards: usize, z: usize) -> bool
-    requires { ⌜ z * 2112 + 2112 ≤ length (now state) ⌝ }
+    requires { ⌜ z * shardWords + shardWords ≤ length (now state) ⌝ }
     ensures { λ r. ⌜ r ≡ allBelow 8 (isConfigurationOf (now (state .entry)) shards z) ⌝ }
 {
     let mut j = 0;

@@ -1,5 +1,6 @@
 // Entries of a history: takes and issues.
 use crate::members;
+use model::entry;
 ghost use mathlib.Core.Path.{_≡_};
 ghost use Rattle.model.specs.Entries.{isTake, isEntry, isProperIssue};
 
@@ -14,21 +15,20 @@ pub fn is_take(e: u64) -> bool
 pub fn is_proper_issue(shards: usize, e: u64) -> bool
     ensures { λ r. ⌜ r ≡ isProperIssue shards e ⌝ }
 {
-    if e / 4294967296 != 1 {
+    if !entry::is_issue(e) {
         return false;
     }
-    let index = e / 16777216 % 256;
+    let index = entry::issue_index(e);
     if index < 2 {
         return false;
     }
     if 8 < index {
         return false;
     }
-    let shard = (e / 1048576 % 16) as usize;
-    if shards <= shard {
+    if shards as u64 <= entry::issue_shard(e) {
         return false;
     }
-    members::is_configuration(e % 65536, e / 65536 % 16)
+    members::is_configuration(entry::issue_members(e), entry::issue_orderer(e))
 }
 
 // Whether a word is a proper entry. A take is told by one comparison, before issues are looked at.

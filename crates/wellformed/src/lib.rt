@@ -1,4 +1,5 @@
 // The whole check of a state: its length, and then well-formedness, shard by shard.
+use model::layout::SHARD_WORDS;
 ghost use mathlib.Core.Path.{_≡_};
 ghost use Rattle.model.specs.Layout.{shardsOf};
 ghost use Rattle.model.specs.WellFormed.{wellFormed};
@@ -8,7 +9,7 @@ mod configuration;
 pub mod entry;
 pub mod members;
 mod replica;
-mod sequencer;
+pub mod sequencer;
 pub mod shard;
 
 // The number of shards of a state of `len` words, 0 where no state has that length.
@@ -35,7 +36,7 @@ pub fn well_formed(state: &[u64]) -> bool
     if !shard::all_shards(state, shards) {
         return false;
     }
-    sequencer::all_differ(state, shards)
+    sequencer::all_differ(state, SHARD_WORDS, shards)
 }
 
 // The rejection of a state: 1 for its length, 9 where it is not well-formed, else 0.

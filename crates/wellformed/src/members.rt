@@ -1,13 +1,7 @@
-// Member sets: how many members they have, and proper ones with their orderer.
+// Proper member sets with their orderer.
+use model::configuration::Configuration;
 ghost use mathlib.Core.Path.{_≡_};
-ghost use Rattle.model.specs.Members.{size, isConfiguration};
-
-// How many members a set has: its count of ones.
-pub fn size(members: u64) -> usize
-    ensures { λ r. ⌜ r ≡ size members ⌝ }
-{
-    u64::count_ones(members) as usize
-}
+ghost use Rattle.model.specs.Members.{isConfiguration};
 
 // Whether a member set and an orderer are proper. A set that has the orderer is not empty.
 pub fn is_configuration(members: u64, orderer: u64) -> bool
@@ -19,8 +13,13 @@ pub fn is_configuration(members: u64, orderer: u64) -> bool
     if 15 < orderer {
         return false;
     }
-    if (members >> orderer) % 2 != 1 {
+    let c = Configuration {
+        place: 0,
+        members,
+        orderer,
+    };
+    if !c.has(orderer) {
         return false;
     }
-    size(members) < 5
+    c.size() < 5
 }

@@ -1,11 +1,17 @@
 // The 64 words of a replica.
 use crate::entry;
+use model::layout::ENTRIES;
+use model::layout::LENGTH;
+use model::layout::MOST_ENTRIES;
+use model::layout::PENDING;
+use model::layout::STABLE;
 ghost use mathlib.Core.Path.{_≡_};
 ghost use mathlib.Core.Bool.{true, not, _&&_, _||_};
 ghost use lib.Dec.{eqb, leb};
 ghost use lib.ListN.{length, getD};
 ghost use Rattle.model.specs.Tests.{allBelow, allOf};
 ghost use Rattle.model.specs.Entries.{isTake, isEntry};
+ghost use Rattle.model.specs.Layout.{partWords};
 ghost use Rattle.model.specs.WellFormed.{isPart};
 
 // Whether all words are 0: joined without an early exit, and tested once.
@@ -63,7 +69,7 @@ pub fn all_entries(words: &[u64], shards: usize) -> bool
 pub fn may_wait(mode: u64, len: u64, j: usize) -> bool
     ensures { λ r. ⌜ r ≡ (not (eqb mode 1) || (eqb len 0 && leb 1 j)) ⌝ }
 {
-    if mode != 1 {
+    if mode != PENDING {
         return true;
     }
     if len != 0 {
@@ -74,19 +80,19 @@ pub fn may_wait(mode: u64, len: u64, j: usize) -> bool
 
 // Whether the words are those of a member's replica in configuration j.
 pub fn is_replica(words: &[u64], shards: usize, j: usize) -> bool
-    requires { ⌜ length (now words) ≡ 64 ⌝ }
+    requires { ⌜ length (now words) ≡ partWords ⌝ }
     ensures { λ r. ⌜ r ≡ isPart shards j true (now (words .entry)) ⌝ }
 {
     let mode = words[0];
-    let len = words[1];
-    let stable = words[2];
+    let len = words[LENGTH];
+    let stable = words[STABLE];
     if mode < 1 {
         return false;
     }
     if 3 < mode {
         return false;
     }
-    if 56 < len {
+    if MOST_ENTRIES < len {
         return false;
     }
     if len < stable {
@@ -95,11 +101,11 @@ pub fn is_replica(words: &[u64], shards: usize, j: usize) -> bool
     if !may_wait(mode, len, j) {
         return false;
     }
-    if !all_zero(&words[3..8]) {
+    if !all_zero(&words[3..ENTRIES]) {
         return false;
     }
-    let end = 8 + (len as usize);
-    if !all_entries(&words[8..end], shards) {
+    let end = ENTRIES + (len as usize);
+    if !all_entries(&words[ENTRIES..end], shards) {
         return false;
     }
     all_zero(&words[end..])
@@ -107,7 +113,7 @@ pub fn is_replica(words: &[u64], shards: usize, j: usize) -> bool
 
 // Whether the words are those of a member's or of another replica in configuration j.
 pub fn is_part(words: &[u64], shards: usize, j: usize, member: bool) -> bool
-    requires { ⌜ length (now words) ≡ 64 ⌝ }
+    requires { ⌜ length (now words) ≡ partWords ⌝ }
     ensures { λ r. ⌜ r ≡ isPart shards j member (now (words .entry)) ⌝ }
 {
     if member {

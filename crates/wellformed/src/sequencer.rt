@@ -1,21 +1,21 @@
-// The sequencers of a state's shards: no two alike.
+// Sequencers: no two shards have the same. They stand at equal distances, in a state as in a plan.
 ghost use mathlib.Core.Path.{_≡_};
 ghost use mathlib.Core.Bool.{not};
-ghost use Prim.Native.Nat.{_*_, _≤_};
+ghost use Prim.Native.Nat.{_*_};
 ghost use lib.Dec.{eqb};
-ghost use lib.ListN.{length};
+ghost use lib.ListN.{getD};
 ghost use Rattle.model.specs.Tests.{allBelow};
-ghost use Rattle.model.specs.Layout.{sequencer};
 ghost use Rattle.model.specs.WellFormed.{allDiffer};
+ghost use Rattle.wellformed.specs.Spaced.{Spaced};
 
-// Whether the shards below a have other sequencers than q.
-pub fn differs_below(state: &[u64], a: usize, q: u64) -> bool
-    requires { ⌜ a * 2112 ≤ length (now state) ⌝ }
-    ensures { λ r. ⌜ r ≡ allBelow a (λ b. not (eqb (sequencer (now (state .entry)) b) q)) ⌝ }
+// Whether the words at a distance from each other, below the a-th, are others than q.
+fn differs_below(words: &[u64], distance: usize, a: usize, q: u64) -> bool
+    requires { ⌜ Spaced (now words) distance a ⌝ }
+    ensures { λ r. ⌜ r ≡ allBelow a (λ b. not (eqb (getD (now (words .entry)) (b * distance) 0) q)) ⌝ }
 {
     let mut b = 0;
     while b < a {
-        if state[b * 2112] == q {
+        if words[b * distance] == q {
             return false;
         }
         b += 1;
@@ -23,14 +23,14 @@ pub fn differs_below(state: &[u64], a: usize, q: u64) -> bool
     true
 }
 
-// Whether no two shards have the same sequencer.
-pub fn all_differ(state: &[u64], shards: usize) -> bool
-    requires { ⌜ shards * 2112 ≤ length (now state) ⌝ }
-    ensures { λ r. ⌜ r ≡ allDiffer shards (sequencer (now (state .entry))) ⌝ }
+// Whether no two of so many words at a distance from each other are the same.
+pub fn all_differ(words: &[u64], distance: usize, shards: usize) -> bool
+    requires { ⌜ Spaced (now words) distance shards ⌝ }
+    ensures { λ r. ⌜ r ≡ allDiffer shards (λ z. getD (now (words .entry)) (z * distance) 0) ⌝ }
 {
     let mut a = 0;
     while a < shards {
-        if !differs_below(state, a, state[a * 2112]) {
+        if !differs_below(words, distance, a, words[a * distance]) {
             return false;
         }
         a += 1;

@@ -1,10 +1,15 @@
 // A shard: its sequencer, its count of configurations, these, and the rest of its head words.
 use crate::configuration;
 use crate::replica;
+use model::layout::INSTALLED;
+use model::layout::REST;
+use model::layout::REST_WORDS;
+use model::layout::SHARD_WORDS;
 ghost use mathlib.Core.Path.{_≡_};
 ghost use Prim.Native.Nat.{_+_, _*_, _≤_};
 ghost use lib.ListN.{length};
 ghost use Rattle.model.specs.Tests.{allBelow};
+ghost use Rattle.model.specs.Layout.{shardWords};
 ghost use Rattle.model.specs.WellFormed.{isSequencer, isShard};
 
 // Whether q may be the sequencer of shard z.
@@ -19,22 +24,22 @@ pub fn is_sequencer(shards: usize, z: usize, q: u64) -> bool
 
 // Whether shard z is well-formed.
 pub fn is_shard(state: &[u64], shards: usize, z: usize) -> bool
-    requires { ⌜ z * 2112 + 2112 ≤ length (now state) ⌝ }
+    requires { ⌜ z * shardWords + shardWords ≤ length (now state) ⌝ }
     ensures { λ r. ⌜ r ≡ isShard (now (state .entry)) shards z ⌝ }
 {
-    let at = z * 2112;
+    let at = z * SHARD_WORDS;
     if !is_sequencer(shards, z, state[at]) {
         return false;
     }
-    let installed = state[at + 1];
+    let installed = state[at + INSTALLED];
     if installed < 1 {
         return false;
     }
     if 8 < installed {
         return false;
     }
-    let first = at + 18;
-    let end = first + 46;
+    let first = at + REST;
+    let end = first + REST_WORDS;
     if !replica::all_zero(&state[first..end]) {
         return false;
     }
@@ -43,7 +48,7 @@ pub fn is_shard(state: &[u64], shards: usize, z: usize) -> bool
 
 // Whether all shards are well-formed.
 pub fn all_shards(state: &[u64], shards: usize) -> bool
-    requires { ⌜ shards * 2112 ≤ length (now state) ⌝ }
+    requires { ⌜ shards * shardWords ≤ length (now state) ⌝ }
     ensures { λ r. ⌜ r ≡ allBelow shards (isShard (now (state .entry)) shards) ⌝ }
 {
     let mut z = 0;

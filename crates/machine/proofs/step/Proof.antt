@@ -1,14 +1,10 @@
 -- `machine::step` meets its contract.
-use borrow.Author.Needs.{needs}
-use Prim.Native.Nat.{ℕ}
-use mathlib.Core.Path.{_≡_, refl}
-use lib.ListN.{length}
-use Rattle.model.specs.Layout.{shardsOf}
-use mathlib.Core.Path.{sym, ap, _∙_}
-use borrow.Author.Tests.{not-true, not-false}
-use Rattle.machine.specs.Inside.{argumentRejection}
+use borrow.Author.Tests.{not-false}
+use mathlib.Core.Path.{sym, _∙_}
 use Rattle.lookup.proofs.Formed.{formed-of}
-use Rattle.machine.proofs.Entry.{rejects-length, rejects-early, rejects-form}
+use Rattle.machine.proofs.Ladders.{rejects-length, rejects-early, rejects-form}
+use Rattle.machine.proofs.ByKind.{index-told}
+use borrow.Author.Needs.{needs}
 use Rattle.machine.proofs.step.Statement.{statement}
 use Rattle.machine.proofs.step.Tie as tie
 
@@ -17,43 +13,63 @@ shard-count-requires c κs = search needs
 
 returns : tie.Need-returns
 returns c =
-    let a = c .before .before .before .args in
-    rejects-length (a .state .now) (a .s) (sym (c .before .shard-count .ensures) ∙ c .if1 .taken)
+    let n = c .before in
+    let a = n .before .before .args in
+    rejects-length (a .state .now) (a .s) (n .shard-count .ensures) (c .if1 .taken)
 
 rejection-requires : tie.Need-rejection-requires
 rejection-requires c κs = search needs
 
 returns-2 : tie.Need-returns-2
 returns-2 c =
-    let a = c .before .before .before .before .before .args in
-    let n : shardsOf (length (a .state .now)) ≡ 0 → ⊥ = λ q. c .before .before .if1 .left (c .before .before .before .shard-count .ensures ∙ q) in
-    let r = c .before .rejection .ensures ∙ ap (λ (z : ℕ). argumentRejection z (a .s)) (c .before .before .before .shard-count .ensures) in
-    rejects-early (a .state .now) (a .s) n (c .before .rejection .result) r (c .if2 .taken)
+    let n = c .before .before .before in
+    let a = n .before .before .args in
+    rejects-early (a .state .now) (a .s) (n .shard-count .ensures) (c .before .before .if1 .left) (c .before .rejection .ensures) (c .if2 .taken)
 
 well-formed-requires : tie.Need-well-formed-requires
 well-formed-requires c κs = search needs
 
 same-length : tie.Need-same-length
-same-length c = refl
+same-length c = search needs
 
 returns-3 : tie.Need-returns-3
 returns-3 c =
-    let a = c .before .before .before .before .before .before .before .before .args in
-    let n : shardsOf (length (a .state .now)) ≡ 0 → ⊥ = λ q. c .before .before .before .before .before .if1 .left (c .before .before .before .before .before .before .shard-count .ensures ∙ q) in
-    let r = c .before .before .before .before .rejection .ensures ∙ ap (λ (z : ℕ). argumentRejection z (a .s)) (c .before .before .before .before .before .before .shard-count .ensures) in
-    rejects-form (a .state .now) (a .s) n (sym r ∙ c .before .before .before .if2 .left) (sym (c .before .well-formed .ensures) ∙ not-true _ (c .if3 .taken))
+    let e = c .before .before .before .before in
+    let n = e .before .before in
+    let a = n .before .before .args in
+    rejects-form (a .state .now) (a .s) (n .shard-count .ensures) (e .before .if1 .left) (e .rejection .ensures)
+    (c .before .before .before .if2 .left) (c .before .well-formed .ensures) (c .if3 .taken)
 
-step-inside-requires : tie.Need-step-inside-requires
-step-inside-requires c κs =
-    let o = c .before .before .before .before .before .before in
-    let n : shardsOf (length (o .before .before .before .args .state .now)) ≡ 0 → ⊥ = λ q. o .if1 .left (o .before .shard-count .ensures ∙ q) in
-    formed-of _ n (sym (c .before .before .well-formed .ensures) ∙ not-false _ (c .before .if3 .left))
+act-requires : tie.Need-act-requires
+act-requires c κs =
+    let f = c .before .before in
+    let e = f .before .before .before in
+    let n = e .before .before in
+    let a = n .before .before .args in
+    let formed = sym (f .well-formed .ensures) ∙ not-false _ (c .before .if3 .left) in
+    record {
+      state = formed-of (a .state .now) (λ q. e .before .if1 .left (n .shard-count .ensures ∙ q)) formed;
+      count = n .shard-count .ensures;
+      index = index-told _ (a .s) (sym (e .rejection .ensures) ∙ f .before .before .if2 .left);
+    }
 
 same-length-2 : tie.Need-same-length-2
 same-length-2 c = search needs
 
 returns-4 : tie.Need-returns-4
-returns-4 c = c .before .before .step-inside .ensures
+returns-4 c = c .before .before .act .ensures
 
 pub step-spec : {M : Type 1} → statement M
-step-spec = tie.close (tie.spec shard-count-requires returns rejection-requires returns-2 well-formed-requires same-length returns-3 step-inside-requires same-length-2 returns-4)
+step-spec =
+    tie.close
+    (tie.spec
+    shard-count-requires
+    returns
+    rejection-requires
+    returns-2
+    well-formed-requires
+    same-length
+    returns-3
+    act-requires
+    same-length-2
+    returns-4)

@@ -1,19 +1,21 @@
 -- `penkwadar::show` meets its contract: the text that was written lies within the output.
 use Prim.Native.Nat.{ℕ, _≤_}
-use mathlib.Core.Path.{_≡_, sym, _∙_}
+use mathlib.Core.Path.{_≡_}
 use mathlib.Core.List.{List}
 use lib.ListN.{length}
 use Rattle.model.specs.declared.Writing.{Writing}
 use Rattle.model.specs.declared.Writing.the-variants.{Bytes}
-use Rattle.transcript.specs.Text.{textWriting, afterText}
+use Rattle.model.specs.Results.{writingCount}
+use Rattle.transcript.specs.Text.{textCount, afterText}
 use Rattle.transcript.proofs.Delivery.{fits-output, text-kept}
 use borrow.Author.Needs.{needs}
 use Rattle.penkwadar.proofs.show.Statement.{statement}
 use Rattle.penkwadar.proofs.show.Tie as tie
 
-within : (out text : List ℕ) {last : List ℕ} {r : Writing} {n : ℕ} → (r ≡ textWriting out text) × (last ≡ afterText out text)
+within : (out text : List ℕ) {last : List ℕ} {r : Writing} {n : ℕ} → writingCount r ≡ textCount out text → last ≡ afterText out text
     → r ≡ Bytes n → n ≤ length last
-within out text e f = rw (e .1, text-kept out text) (fits-output out text (sym f ∙ e .0))
+unfolding writingCount
+within out text e f q = rw (f, text-kept out text) (fits-output out text (rw q at e))
 
 slice-aggregate-transcript : tie.Need-slice-aggregate-transcript
 slice-aggregate-transcript c = search needs
@@ -30,7 +32,8 @@ slice-aggregate-print c = search needs
 print-requires : tie.Need-print-requires
 print-requires c κs =
     let l = c .before .before in
-    within _ _ (l .before .before .before .transcript .ensures) (l .length .given .1)
+    let e = l .before .before .before .transcript .ensures in
+    within _ _ (e .1 .0) (e .1 .1 .1) (l .length .given .1)
 
 enum-told : tie.Need-enum-told
 enum-told c = search needs

@@ -28,7 +28,9 @@ step-inside-requires : tie.Need-step-inside-requires Inv-loop μ-loop
 step-inside-requires c κs = c .before .before .before .before .before .before .loop .inv .formed
 
 add-rejected : tie.Need-add-rejected Inv-loop μ-loop
-add-rejected c = record { fits = omega (arith, c .before .before .before .before .before .before .before .before .before .before .loop .inv .rest .fewer) }
+add-rejected c =
+    let s = c .before .before .before .before .before .before in
+    record { fits = omega (arith, s .before .before .before .before .loop .inv .rest .fewer) }
 
 add-tried : tie.Need-add-tried Inv-loop μ-loop
 add-tried c = search needs
@@ -38,9 +40,15 @@ loop-less c = search needs
 
 loop-again : tie.Need-loop-again Inv-loop μ-loop
 loop-again c =
-    let i = c .before .before .before .before .before .before .before .before .before .before .loop .inv in
-    ⊎-elim (λ d. rw (d .1) (turn-rejected i (c .before .before .before .before .before .before .step .given .0 .0) (c .before .before .before .before .before .before .step .given .0 .1 .0) (c .before .before .before .before .before .before .before .before .before .loop-test .taken) (sym (c .before .before .before .before .before .before .before .before .read-step .ensures) ∙ c .before .before .before .before .before .before .step .given .1) (c .before .before .before .step-inside .result) (c .before .before .before .step-inside .last .0) (c .before .before .before .step-inside .ensures .0) (c .before .before .before .step-inside .ensures .1) (d .0 .taken)))
-    (λ d. rw (d .1) (turn-accepted i (c .before .before .before .before .before .before .step .given .0 .0) (c .before .before .before .before .before .before .step .given .0 .1 .0) (c .before .before .before .before .before .before .before .before .before .loop-test .taken) (sym (c .before .before .before .before .before .before .before .before .read-step .ensures) ∙ c .before .before .before .before .before .before .step .given .1) (c .before .before .before .step-inside .result) (c .before .before .before .step-inside .last .0) (c .before .before .before .step-inside .ensures .0) (c .before .before .before .step-inside .ensures .1) (d .0 .left)))
+    let m = c .before .before .before in
+    let s = m .before .before .before in
+    let r = s .before .before in
+    let i = r .before .before .loop .inv in
+    let h = r .before .loop-test .taken in
+    let e = sym (r .read-step .ensures .1 .1 .1) ∙ s .step .given .1 in
+    let f = m .step-inside .ensures in
+    ⊎-elim (λ d. turn-rejected i (s .step .given .0 .0) (s .step .given .0 .1 .0) h e _ (f .0) (f .1) (d .0 .taken) (omega (arith, d .1)))
+    (λ d. turn-accepted i (s .step .given .0 .0) (s .step .given .0 .1 .0) h e _ (f .0) (f .1) (d .0 .left) (omega (arith, d .1)))
     (c .if1 .came)
 
 enum-told : tie.Need-enum-told Inv-loop μ-loop
@@ -54,8 +62,9 @@ same-length c = c .before .before .before .before .before .loop .inv .long
 
 returns : tie.Need-returns Inv-loop μ-loop
 returns c =
-    let i = c .before .before .before .before .before .loop .inv in
-    let d = rest-end (i .rest) (c .before .before .before .before .loop-test .taken) (sym (c .before .before .before .read-step .ensures) ∙ c .before .enum-told .given .1) in
+    let r = c .before .before .before in
+    let e = sym (r .read-step .ensures .1 .1 .1) ∙ c .before .enum-told .given .1 in
+    let d = rest-end (r .before .before .loop .inv .rest) (r .before .loop-test .taken) e in
     (c .stopped .ensures ∙ d .0, d .1)
 
 enum-known-r : tie.Need-enum-known-r Inv-loop μ-loop
@@ -69,8 +78,10 @@ same-length-2 c = c .before .before .before .before .before .before .loop .inv .
 
 returns-2 : tie.Need-returns-2 Inv-loop μ-loop
 returns-2 c =
-    let i = c .before .before .before .before .before .before .loop .inv in
-    let d = rest-damaged (i .rest) (c .before .before .r .given .0 .0) (c .before .before .before .before .before .loop-test .taken) (sym (c .before .before .before .before .read-step .ensures) ∙ c .before .before .r .given .1) in
+    let k = c .before .before in
+    let r = k .before .before in
+    let e = sym (r .read-step .ensures .1 .1 .1) ∙ k .r .given .1 in
+    let d = rest-damaged (r .before .before .loop .inv .rest) (k .r .given .0 .0) (r .before .loop-test .taken) e in
     (c .stopped2 .ensures ∙ d .0, d .1)
 
 stopped-requires-3 : tie.Need-stopped-requires-3 Inv-loop μ-loop

@@ -32,7 +32,9 @@ loop-less : tie.Need-loop-less Inv-loop μ-loop
 loop-less c = search needs
 
 loop-again : tie.Need-loop-again Inv-loop μ-loop
-loop-again c = (search needs, omega (arith, c .before .before .differs .ensures), c .before .space .given ∙ c .before .before .before .before .before .before .loop .inv .2)
+loop-again c =
+    let l = c .before .before .before .before .before .before .loop in
+    (search needs, omega (arith, c .before .before .differs .ensures), c .before .space .given ∙ l .inv .2)
 
 same-length : tie.Need-same-length Inv-loop μ-loop
 same-length c = search needs

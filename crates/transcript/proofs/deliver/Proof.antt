@@ -1,8 +1,8 @@
 -- `transcript::deliver` meets its contract.
-use mathlib.Core.Path.{sym, _∙_}
 use lib.ListN.{take}
 use Rattle.transcript.proofs.Stores.{sets-kept}
 use Rattle.transcript.proofs.Delivery.{long, too-short, room, delivered}
+use mathlib.Core.Path.{sym}
 use Rattle.transcript.proofs.deliver.Statement.{statement}
 use Rattle.transcript.proofs.deliver.Tie as tie
 
@@ -15,7 +15,10 @@ slice-aggregate-write-bytes c =
     sym (long (s .args .out .now) (s .args .space .now) (s .args .length) (s .pre))
 
 write-bytes-requires : tie.Need-write-bytes-requires
-write-bytes-requires c κs = room (c .before .before .before .before .before .args .out .now) (c .before .before .before .before .before .args .space .now) (c .before .before .before .before .before .args .length) (c .before .before .before .before .before .pre) (c .before .before .if1 .left)
+write-bytes-requires c κs =
+    let t = c .before .before in
+    let s = t .before .before .before in
+    room (s .args .out .now) (s .args .space .now) (s .args .length) (s .pre) (t .if1 .left)
 
 same-length : tie.Need-same-length
 same-length c =
@@ -24,9 +27,9 @@ same-length c =
 
 returns-2 : tie.Need-returns-2
 returns-2 c =
-    let s = c .before .before .before .before .before .before .before .before in
-    let d = delivered (s .args .out .now) (s .args .space .now) (s .args .length) (s .pre) (c .before .before .before .before .before .if1 .left) in
-    (d .0, c .before .before .write-bytes .ensures .1 ∙ d .1)
+    let t = c .before .before .before .before .before in
+    let s = t .before .before .before in
+    delivered (s .args .out .now) (s .args .space .now) (s .args .length) (s .pre) (t .if1 .left) (c .before .before .write-bytes .ensures .1)
 
 pub deliver-spec : {M : Type 1} → statement M
 deliver-spec =

@@ -1,9 +1,9 @@
 -- `transcript::transcript` meets its contract.
-use borrow.Author.Needs.{needs}
 use mathlib.Core.Path.{ap, _∙_}
 use lib.ListN.{length}
 use Rattle.model.specs.Transcript.{transcript}
-use Rattle.transcript.proofs.Delivery.{text-kept, space-fits, written-room, written-text}
+use Rattle.transcript.proofs.Delivery.{told, text-kept, space-fits, written-room, written-text}
+use borrow.Author.Needs.{needs}
 use Rattle.transcript.proofs.transcript.Statement.{statement}
 use Rattle.transcript.proofs.transcript.Tie as tie
 
@@ -18,19 +18,23 @@ slice-aggregate-deliver c = search needs
 
 deliver-requires : tie.Need-deliver-requires
 deliver-requires c κs =
-    let s = c .before .before .before .before .before .before .before in
-    written-room (s .args .log .now) (c .before .before .before .write-text .ensures .0) (c .before .before .before .write-text .ensures .1)
-
-returns : tie.Need-returns
-returns c =
-    let s = c .before .before .before .before .before .before .before .before .before .before in
-    let t = written-text (s .args .log .now) (c .before .before .before .before .before .before .write-text .ensures .0) (c .before .before .before .before .before .before .write-text .ensures .1) in
-    rw t at (c .before .before .deliver .ensures)
+    let w = c .before .before .before in
+    written-room (w .before .before .before .before .args .log .now) (w .write-text .ensures)
 
 same-length : tie.Need-same-length
 same-length c =
-    let s = c .before .before .before .before .before .before .before .before .before .before in
-    ap length (returns c .1) ∙ text-kept (s .args .out .now) (transcript (s .args .log .now))
+    let d = c .before .before in
+    let w = d .before .before .before .before in
+    let a = w .before .before .before .before .args in
+    let e = rw (written-text (a .log .now) (w .write-text .ensures)) at (d .deliver .ensures .1) in
+    ap length e ∙ text-kept (a .out .now) (transcript (a .log .now))
+
+returns : tie.Need-returns
+returns c =
+    let d = c .before .before in
+    let w = d .before .before .before .before in
+    let a = w .before .before .before .before .args in
+    told (a .out .now) (transcript (a .log .now)) (rw (written-text (a .log .now) (w .write-text .ensures)) at (d .deliver .ensures))
 
 pub transcript-spec : {M : Type 1} → statement M
 transcript-spec =

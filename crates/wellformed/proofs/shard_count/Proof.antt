@@ -9,7 +9,7 @@ use lib.Dec.{leb, eqb}
 use borrow.Author.Tests.{eqb-true, leb-true}
 use Rattle.model.specs.Layout.{shardsOf}
 use Rattle.model.proofs.Tests.{all-pass}
-use Rattle.wellformed.proofs.Ranges.{not-passed}
+use Rattle.model.proofs.Ranges.{not-passed}
 use Rattle.wellformed.proofs.shard_count.Statement.{statement}
 use Rattle.wellformed.proofs.shard_count.Tie as tie
 

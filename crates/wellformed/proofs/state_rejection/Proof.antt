@@ -4,7 +4,7 @@ use borrow.Author.Tests.{le-leb, not-true, not-false}
 use Rattle.model.specs.Checks.{firstOf}
 use Rattle.model.specs.Layout.{isStateLength}
 use Rattle.model.specs.Replay.{replayRejection}
-use Rattle.wellformed.proofs.Lengths.{two-shards}
+use Rattle.model.proofs.Lengths.{several}
 use Rattle.wellformed.proofs.state_rejection.Statement.{statement}
 use Rattle.wellformed.proofs.state_rejection.Tie as tie
 
@@ -21,12 +21,14 @@ well-formed-requires c κs = tt
 returns-2 : tie.Need-returns-2
 unfolding replayRejection isStateLength firstOf
 returns-2 c =
-    rw (le-leb 2 _ (two-shards _ (λ e. c .before .before .if1 .left (c .before .before .before .shard-count .ensures ∙ e))), sym (c .before .well-formed .ensures) ∙ not-true _ (c .if2 .taken))
+    let i = c .before .before in
+    rw (le-leb 2 _ (several _ (λ e. i .if1 .left (i .before .shard-count .ensures ∙ e))), sym (c .before .well-formed .ensures) ∙ not-true _ (c .if2 .taken))
 
 returns-3 : tie.Need-returns-3
 unfolding replayRejection isStateLength firstOf
 returns-3 c =
-    rw (le-leb 2 _ (two-shards _ (λ e. c .before .before .if1 .left (c .before .before .before .shard-count .ensures ∙ e))), sym (c .before .well-formed .ensures) ∙ not-false _ (c .if2 .left))
+    let i = c .before .before in
+    rw (le-leb 2 _ (several _ (λ e. i .if1 .left (i .before .shard-count .ensures ∙ e))), sym (c .before .well-formed .ensures) ∙ not-false _ (c .if2 .left))
 
 pub state-rejection-spec : {M : Type 1} → statement M
 state-rejection-spec =

@@ -2,7 +2,8 @@
 use mathlib.Core.Path.{sym, _∙_}
 use borrow.Author.Tests.{not-true, not-false}
 use Rattle.model.specs.WellFormed.{wellFormed}
-use Rattle.wellformed.proofs.Lengths.{shards-fit}
+use Rattle.model.proofs.Lengths.{shards-fit}
+use Rattle.wellformed.proofs.Heads.{sequencers-spaced, sequencers-differ}
 use Rattle.wellformed.proofs.well_formed.Statement.{statement}
 use Rattle.wellformed.proofs.well_formed.Tie as tie
 
@@ -18,12 +19,14 @@ returns c =
     rw (← c .before .before .shard-count .ensures, sym (c .before .all-shards .ensures) ∙ not-true _ (c .if1 .taken))
 
 all-differ-requires : tie.Need-all-differ-requires
-all-differ-requires c κs = rw (c .before .before .shard-count .ensures) (shards-fit _)
+all-differ-requires c κs = rw (c .before .before .shard-count .ensures) (sequencers-spaced _)
 
 returns-2 : tie.Need-returns-2
 unfolding wellFormed
 returns-2 c =
-    rw (← c .before .before .before .shard-count .ensures, sym (c .before .before .all-shards .ensures) ∙ not-false _ (c .before .if1 .left)) (c .all-differ .ensures)
+    let i = c .before in
+    let formed = sym (i .before .all-shards .ensures) ∙ not-false _ (i .if1 .left) in
+    rw (← i .before .before .shard-count .ensures, formed, sequencers-differ) (c .all-differ .ensures)
 
 pub well-formed-spec : {M : Type 1} → statement M
 well-formed-spec =

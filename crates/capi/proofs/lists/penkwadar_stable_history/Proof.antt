@@ -1,15 +1,15 @@
 -- `capi::lists::penkwadar_stable_history` meets its contract.
-use mathlib.Core.Path.{sym, _∙_}
-use Rattle.histories.specs.Listing.{listingNumber}
-use Rattle.capi.specs.Lists.{listingWord, historyAnswer, entriesAfter, entryCountAfter}
-use Rattle.capi.proofs.Counts.{no-word, counted}
+use mathlib.Core.Path.{_∙_}
+use Rattle.histories.specs.History.{listing}
+use Rattle.capi.specs.Lists.{historyAnswer, entriesAfter, entryCountAfter}
+use Rattle.capi.proofs.Counts.{no-word, counted, listing-word}
 use borrow.Author.Needs.{needs}
 use Rattle.capi.proofs.lists.penkwadar_stable_history.Statement.{statement}
 use Rattle.capi.proofs.lists.penkwadar_stable_history.Tie as tie
 
 returns : tie.Need-returns
 unfolding historyAnswer entriesAfter entryCountAfter
-returns c = no-word _ _ _ (c .if1 .taken) _ _
+returns c = no-word _ _ _ _ _ (c .if1 .taken)
 
 stable-history-requires : tie.Need-stable-history-requires
 stable-history-requires c κs = search needs
@@ -24,13 +24,14 @@ same-length-2 : tie.Need-same-length-2
 same-length-2 c = search needs
 
 returns-2 : tie.Need-returns-2
-unfolding historyAnswer entriesAfter entryCountAfter
+unfolding historyAnswer entriesAfter entryCountAfter listing
 returns-2 c =
-    let l = c .before .before .before .before .before .before in
-    let p = c .before .before .put-listing .ensures in
-    let e = l .stable-history .ensures in
-    let k = counted _ _ _ (l .before .before .if1 .left) listingNumber listingWord (l .stable-history .result) (sym (e .0)) (e .1) in
-    (p .0 ∙ k .0, (k .1 .0, p .1 ∙ k .1 .1))
+    let p = c .before .before in
+    let i = p .before .before .before .before in
+    let t = i .before .before in
+    let e = i .stable-history .ensures in
+    let d = p .put-listing .ensures in
+    counted _ _ _ _ _ (t .if1 .left) (d .0 ∙ e .0) (e .1 .1 .1) (d .1 ∙ listing-word _ _ _ (e .1 .1 .0))
 
 pub penkwadar-stable-history-spec : {M : Type 1} → statement M
 penkwadar-stable-history-spec =

@@ -1,11 +1,9 @@
--- `capi::replays::penkwadar_replay` meets its contract. Each arm writes the words of its stop.
-use mathlib.Core.Path.{refl}
+-- `capi::replays::penkwadar_replay` meets its contract.
 use native.Mathlib.Omega.{arith}
+use mathlib.Core.Path.{refl}
+use Rattle.model.specs.Results.{stopNumber, stopCode}
+use Rattle.capi.proofs.Reports.{wasMade, short, reported, not-made}
 use borrow.Author.Needs.{needs}
-use Rattle.model.specs.declared.Stop.the-variants.{Ended, Spent, Damaged, Rejected}
-use Rattle.model.specs.Results.{stopNumber}
-use Rattle.capi.specs.Replays.{stopWords}
-use Rattle.capi.proofs.Reports.{short, stopped}
 use Rattle.capi.proofs.replays.penkwadar_replay.Statement.{statement}
 use Rattle.capi.proofs.replays.penkwadar_replay.Tie as tie
 
@@ -43,11 +41,12 @@ same-length-2 : tie.Need-same-length-2
 same-length-2 c = search needs
 
 returns-2 : tie.Need-returns-2
-unfolding stopNumber stopWords
+unfolding stopNumber stopCode wasMade
 returns-2 c =
-    let k = c .before .before .before .before in
+    let w = c .before .before in
+    let k = w .before .before in
     let r = k .before .before .before .before in
-    stopped _ _ _ _ (r .before .before .if1 .left) _ (r .replay .ensures .0) Ended (k .enum-told .given .1) (r .replay .ensures .1) (c .before .before .put-report .ensures)
+    reported _ _ _ _ (r .before .before .if1 .left) (r .replay .ensures) (k .enum-told .given .1) refl (w .put-report .ensures)
 
 same-length-3 : tie.Need-same-length-3
 same-length-3 c = search needs
@@ -56,11 +55,12 @@ same-length-4 : tie.Need-same-length-4
 same-length-4 c = search needs
 
 returns-3 : tie.Need-returns-3
-unfolding stopNumber stopWords
+unfolding stopNumber stopCode wasMade
 returns-3 c =
-    let k = c .before .before .before .before in
+    let w = c .before .before in
+    let k = w .before .before in
     let r = k .before .before .before .before in
-    stopped _ _ _ _ (r .before .before .if1 .left) _ (r .replay .ensures .0) Spent (k .enum-told2 .given .1) (r .replay .ensures .1) (c .before .before .put-report2 .ensures)
+    reported _ _ _ _ (r .before .before .if1 .left) (r .replay .ensures) (k .enum-told2 .given .1) refl (w .put-report2 .ensures)
 
 same-length-5 : tie.Need-same-length-5
 same-length-5 c = search needs
@@ -69,21 +69,22 @@ same-length-6 : tie.Need-same-length-6
 same-length-6 c = search needs
 
 returns-4 : tie.Need-returns-4
-unfolding stopNumber stopWords
+unfolding stopNumber stopCode wasMade
 returns-4 c =
-    let k = c .before .before .before .before .before in
+    let w = c .before .before in
+    let k = w .before .before .before in
     let r = k .before .before .before .before in
-    stopped _ _ _ _ (r .before .before .if1 .left) _ (r .replay .ensures .0) (Damaged (k .stop .given .0 .0)) (k .stop .given .1) (r .replay .ensures .1) (c .before .before .put-report3 .ensures)
+    reported _ _ _ _ (r .before .before .if1 .left) (r .replay .ensures) (k .stop .given .1) refl (w .put-report3 .ensures)
 
 same-length-7 : tie.Need-same-length-7
 same-length-7 c = search needs
 
 returns-5 : tie.Need-returns-5
-unfolding stopNumber stopWords
+unfolding stopNumber wasMade
 returns-5 c =
     let k = c .before in
     let r = k .before .before .before .before in
-    stopped _ _ _ _ (r .before .before .if1 .left) _ (r .replay .ensures .0) (Rejected (k .stop2 .given .0 .0)) (k .stop2 .given .1) (r .replay .ensures .1) refl
+    not-made _ _ _ _ (r .before .before .if1 .left) (r .replay .ensures) (k .stop2 .given .1) refl
 
 pub penkwadar-replay-spec : {M : Type 1} → statement M
 penkwadar-replay-spec =

@@ -1,16 +1,15 @@
--- `capi::steps::penkwadar_read_step` meets its contract. Each arm writes the words of what was read.
+-- `capi::steps::penkwadar_read_step` meets its contract.
 use Prim.Native.Nat.{_-_}
 use native.Mathlib.Omega.{arith}
-use mathlib.Core.Path.{_≡_, sym, _∙_}
+use mathlib.Core.Path.{_≡_, refl, sym, _∙_}
 use lib.ListN.{length, drop, length-drop}
 use lib.Seq.{take-all}
-use borrow.Author.Needs.{needs}
-use Rattle.model.specs.declared.Reading.the-variants.{Step as Read, End, Rejected}
-use Rattle.model.specs.Log.{readStep, from}
-use Rattle.model.specs.Results.{readingNumber}
+use Rattle.model.specs.Log.{stepOf, readStep, from}
+use Rattle.model.specs.Results.{readingNumber, readingStep, readingNext}
 use Rattle.log.proofs.StepParts.{step-none, step-from, step-inside}
-use Rattle.capi.specs.Steps.{readingWords}
-use Rattle.capi.proofs.StepWords.{read-short, read}
+use Rattle.capi.specs.Steps.{stepWords}
+use Rattle.capi.proofs.StepWords.{read-short, read, read-rejected}
+use borrow.Author.Needs.{needs}
 use Rattle.capi.proofs.steps.penkwadar_read_step.Statement.{statement}
 use Rattle.capi.proofs.steps.penkwadar_read_step.Tie as tie
 
@@ -21,7 +20,8 @@ entry f = f .before .before .before .before .before .before
 rest : (f : tie.After-first-step) → let a = entry f .args in f .first-step .result ≡ readStep (drop (a .at) (a .log .now))
 rest f =
     let a = entry f .args in
-    rw (take-all (length (a .log .now) - a .at) (drop (a .at) (a .log .now)) (omega (arith, length-drop (a .at) (a .log .now)))) at (f .first-step .ensures)
+    let whole = take-all (length (a .log .now) - a .at) (drop (a .at) (a .log .now)) (omega (arith, length-drop (a .at) (a .log .now))) in
+    rw whole at (f .first-step .ensures .1 .1 .1)
 
 returns : tie.Need-returns
 returns c = read-short _ _ _ (c .if1 .taken)
@@ -33,11 +33,11 @@ same-length : tie.Need-same-length
 same-length c = search needs
 
 returns-2 : tie.Need-returns-2
-unfolding readingNumber readingWords
+unfolding stepOf readingNumber readingStep readingNext stepWords
 returns-2 c =
-    let t = c .before .before .before .before in
-    let d = read _ _ _ (t .before .if1 .left) End (sym (step-none _ _ (t .if2 .taken))) in
-    (d .0, c .before .before .put-step .ensures ∙ d .1)
+    let p = c .before .before in
+    let t = p .before .before in
+    read _ _ _ (t .before .if1 .left) (step-none _ _ (t .if2 .taken)) refl (p .put-step .ensures)
 
 sub-first-step : tie.Need-sub-first-step
 sub-first-step c = search needs
@@ -77,31 +77,30 @@ same-length-2 : tie.Need-same-length-2
 same-length-2 c = search needs
 
 returns-3 : tie.Need-returns-3
-unfolding from readingNumber readingWords
+unfolding from readingNumber readingStep readingNext stepWords
 returns-3 c =
-    let k = c .before .before .before .before .before in
+    let p = c .before .before in
+    let k = p .before .before .before in
     let f = k .before .before in
-    let x = Read (k .s .given .0 .0) (k .s .given .0 .1 .0) in
-    let d = read _ _ _ (f .before .before .before .if1 .left) (from (entry f .args .at) x) (sym (step-from _ _ (rest f) (k .s .given .1))) in
-    (d .0, c .before .before .put-step2 .ensures ∙ d .1)
+    let e = step-from _ _ (rest f) (k .s .given .1) in
+    read _ _ _ (f .before .before .before .if1 .left) e refl (p .put-step2 .ensures)
 
 same-length-3 : tie.Need-same-length-3
 same-length-3 c = search needs
 
 returns-4 : tie.Need-returns-4
-unfolding from readingNumber readingWords
+unfolding from stepOf readingNumber readingStep readingNext stepWords
 returns-4 c =
-    let k = c .before .before .before .before in
+    let p = c .before .before in
+    let k = p .before .before in
     let f = k .before .before in
-    let d = read _ _ _ (f .before .before .before .if1 .left) End (sym (step-from _ _ (rest f) (k .enum-told .given .1))) in
-    (d .0, c .before .before .put-step3 .ensures ∙ d .1)
+    read _ _ _ (f .before .before .before .if1 .left) (step-from _ _ (rest f) (k .enum-told .given .1)) refl (p .put-step3 .ensures)
 
 returns-5 : tie.Need-returns-5
-unfolding from readingNumber readingWords
 returns-5 c =
     let k = c .before in
     let f = k .before .before in
-    read _ _ _ (f .before .before .before .if1 .left) (Rejected (k .r .given .0 .0)) (sym (step-from _ _ (rest f) (k .r .given .1)))
+    read-rejected _ _ _ (f .before .before .before .if1 .left) (sym (rest f) ∙ k .r .given .1)
 
 pub penkwadar-read-step-spec : {M : Type 1} → statement M
 penkwadar-read-step-spec =

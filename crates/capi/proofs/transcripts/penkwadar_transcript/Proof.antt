@@ -1,29 +1,23 @@
--- `capi::transcripts::penkwadar_transcript` meets its contract. Each arm writes the word of what was written.
-use mathlib.Core.Path.{sym, _∙_}
-use borrow.Author.Needs.{needs}
-use Rattle.model.specs.declared.Writing.the-variants.{Bytes, Rejected}
-use Rattle.model.specs.Results.{writingNumber}
-use Rattle.capi.specs.Counts.{writingWord}
+-- `capi::transcripts::penkwadar_transcript` meets its contract.
+use mathlib.Core.Path.{_∙_}
+use lib.ListN.{length}
+use Rattle.model.specs.Transcript.{transcript}
+use Rattle.transcript.specs.Text.{textRejection, textWriting}
 use Rattle.capi.specs.Transcripts.{textAnswer, textAfter, lengthAfter}
-use Rattle.capi.proofs.Counts.{no-word, counted}
+use Rattle.capi.proofs.Counts.{no-word, counted, writing-word}
+use borrow.Author.Needs.{needs}
 use Rattle.capi.proofs.transcripts.penkwadar_transcript.Statement.{statement}
 use Rattle.capi.proofs.transcripts.penkwadar_transcript.Tie as tie
 
 returns : tie.Need-returns
 unfolding textAnswer textAfter lengthAfter
-returns c = no-word _ _ _ (c .if1 .taken) _ _
+returns c = no-word _ _ _ _ _ (c .if1 .taken)
 
 transcript-requires : tie.Need-transcript-requires
 transcript-requires c κs = search needs
 
-enum-known-n : tie.Need-enum-known-n
-enum-known-n c = search needs
-
-slice-write-count : tie.Need-slice-write-count
-slice-write-count c = search needs
-
-enum-known-r : tie.Need-enum-known-r
-enum-known-r c = search needs
+put-writing-requires : tie.Need-put-writing-requires
+put-writing-requires c κs = search needs
 
 same-length : tie.Need-same-length
 same-length c = search needs
@@ -32,33 +26,19 @@ same-length-2 : tie.Need-same-length-2
 same-length-2 c = search needs
 
 returns-2 : tie.Need-returns-2
-unfolding writingNumber writingWord textAnswer textAfter lengthAfter
+unfolding textAnswer textAfter lengthAfter textWriting
 returns-2 c =
-    let k = c .before in
-    let w = k .before .before .before .before in
-    counted _ _ _ (w .before .before .if1 .left) writingNumber writingWord (Bytes (k .n .given .0 .0)) (sym (w .transcript .ensures .0) ∙ k .n .given .1) (w .transcript .ensures .1)
-
-same-length-3 : tie.Need-same-length-3
-same-length-3 c = search needs
-
-returns-3 : tie.Need-returns-3
-unfolding writingNumber writingWord textAnswer textAfter lengthAfter
-returns-3 c =
-    let k = c .before in
-    let w = k .before .before .before .before in
-    counted _ _ _ (w .before .before .if1 .left) writingNumber writingWord (Rejected (k .r .given .0 .0)) (sym (w .transcript .ensures .0) ∙ k .r .given .1) (w .transcript .ensures .1)
+    let p = c .before .before in
+    let i = p .before .before .before .before in
+    let t = i .before .before in
+    let e = i .transcript .ensures in
+    let d = p .put-writing .ensures in
+    let a = t .before .before .before .before .args in
+    let text = transcript (a .log .now) in
+    let word = writing-word (a .count .now) (textRejection (a .out .now) text) (length text) (e .1 .1 .0) in
+    counted _ _ _ _ _ (t .if1 .left) (d .0 ∙ e .0) (e .1 .1 .1) (d .1 ∙ word)
 
 pub penkwadar-transcript-spec : {M : Type 1} → statement M
 penkwadar-transcript-spec =
     tie.close
-    (tie.spec
-    returns
-    transcript-requires
-    enum-known-n
-    slice-write-count
-    enum-known-r
-    same-length
-    same-length-2
-    returns-2
-    same-length-3
-    returns-3)
+    (tie.spec returns transcript-requires put-writing-requires same-length same-length-2 returns-2)

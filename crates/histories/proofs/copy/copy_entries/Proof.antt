@@ -20,14 +20,11 @@ returns c =
     let s = c .before .before .before .before in
     rejects-room (s .args .state .now) (s .args .place) (s .args .out .now) (s .pre) (omega (arith, c .if1))
 
-add-copy : tie.Need-add-copy
-add-copy c = search needs
+add-from : tie.Need-add-from
+add-from c = search needs
 
-add-copy-2 : tie.Need-add-copy-2
-add-copy-2 c = search needs
-
-add-copy-3 : tie.Need-add-copy-3
-add-copy-3 c = search needs
+add-end : tie.Need-add-end
+add-end c = search needs
 
 mul-copy : tie.Need-mul-copy
 mul-copy c = search needs
@@ -62,9 +59,8 @@ copy-entries-spec =
     mul-count
     shared-slice-read-count
     returns
-    add-copy
-    add-copy-2
-    add-copy-3
+    add-from
+    add-end
     mul-copy
     sub-copy
     part-copy-start

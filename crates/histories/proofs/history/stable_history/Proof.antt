@@ -2,7 +2,7 @@
 use native.Mathlib.Omega.{arith}
 use mathlib.Core.Path.{sym, _∙_}
 use borrow.Author.Tests.{not-true, not-false}
-use Rattle.histories.proofs.Histories.{of-shard, rejects-length, rejects-shard, rejects-form, picked, lists}
+use Rattle.histories.proofs.Histories.{of-shard, answers, rejects-length, rejects-shard, rejects-form, picked, lists}
 use borrow.Author.Needs.{needs}
 use Rattle.histories.proofs.history.stable_history.Statement.{statement}
 use Rattle.histories.proofs.history.stable_history.Tie as tie
@@ -59,7 +59,7 @@ returns-4 c =
     let a = l .before .before .before .before .before .before .before .before .args in
     let e = lists (a .state .now) (a .shard) (a .out .now) (longest-requires (l .before) (l .longest .lifetimes)) (l .longest .ensures) in
     let d = c .before .before .copy-entries .ensures in
-    (d .0 ∙ e .0, d .1 ∙ e .1)
+    answers (a .state .now) (a .shard) (a .out .now) (d .0 ∙ e .0) (d .1 ∙ e .1)
 
 pub stable-history-spec : {M : Type 1} → statement M
 stable-history-spec =

@@ -2,8 +2,8 @@
 use Prim.Native.Nat.{_-_}
 use native.Mathlib.Omega.{arith}
 use mathlib.Core.Logic.{⊎-elim}
-use borrow.Author.Needs.{needs}
 use Rattle.histories.proofs.Picking.{Picking, start, turn-longer, turn-other, end}
+use borrow.Author.Needs.{needs}
 use Rattle.histories.proofs.pick.longest.Statement.{statement}
 use Rattle.histories.proofs.pick.longest.Tie as tie
 
@@ -56,7 +56,8 @@ loop-again : tie.Need-loop-again Inv-loop μ-loop
 loop-again c =
     let p = c .before .before .before .loop .inv in
     let h = c .before .before .loop-test .taken in
-    ⊎-elim (λ d. rw (d .1, d .2) (turn-longer p h (omega (arith, d .0)))) (λ d. rw (d .1, d .2) (turn-other p h (omega (arith, d .0)))) (c .if1 .came)
+    ⊎-elim (λ d. rw (d .1, d .2) (turn-longer p h (omega (arith, d .0)))) (λ d. rw (d .1, d .2) (turn-other p h (omega (arith, d .0))))
+    (c .if1 .came)
 
 returns : tie.Need-returns Inv-loop μ-loop
 returns c = end (c .before .loop .inv) (c .loop-test .left)

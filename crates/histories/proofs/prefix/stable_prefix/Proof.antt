@@ -1,6 +1,6 @@
 -- `histories::prefix::stable_prefix` meets its contract.
 use mathlib.Core.Path.{_∙_}
-use Rattle.histories.proofs.Prefixes.{rejects-seat, placed, shows}
+use Rattle.histories.proofs.Prefixes.{answers, rejects-seat, placed, shows}
 use borrow.Author.Needs.{needs}
 use Rattle.histories.proofs.prefix.stable_prefix.Statement.{statement}
 use Rattle.histories.proofs.prefix.stable_prefix.Tie as tie
@@ -30,7 +30,7 @@ returns-2 c =
     let a = f .before .before .before .args in
     let e = shows (a .state .now) (a .shard) (a .index) (a .host) (a .out .now) (f .find-seat .ensures) (t .if1 .left) in
     let d = c .before .before .copy-entries .ensures in
-    (d .0 ∙ e .0, d .1 ∙ e .1)
+    answers (a .state .now) (a .shard) (a .index) (a .host) (a .out .now) (d .0 ∙ e .0) (d .1 ∙ e .1)
 
 pub stable-prefix-spec : {M : Type 1} → statement M
 stable-prefix-spec =

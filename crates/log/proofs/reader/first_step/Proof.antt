@@ -1,4 +1,6 @@
--- `first_step` meets its contract: either way reads the first step. Assumes nothing.
+-- `log::reader::first_step` meets its contract.
+use mathlib.Core.Path.{sym, _∙_}
+use Rattle.model.proofs.Results.{reads-first}
 use borrow.Author.Needs.{needs}
 use Rattle.log.proofs.reader.first_step.Statement.{statement}
 use Rattle.log.proofs.reader.first_step.Tie as tie
@@ -7,16 +9,16 @@ is-short-requires : tie.Need-is-short-requires
 is-short-requires c κs = search needs
 
 short-step-requires : tie.Need-short-step-requires
-short-step-requires c κs = c .before .is-short .ensures (c .if2 .taken)
+short-step-requires c κs = record { bytes = c .before .before .if1 .taken; short = sym (c .before .is-short .ensures) ∙ c .if2 .taken }
 
 returns : tie.Need-returns
-returns c = search needs
+returns c = reads-first _ (c .short-step .ensures)
 
 any-step-requires : tie.Need-any-step-requires
 any-step-requires c κs = search needs
 
 returns-2 : tie.Need-returns-2
-returns-2 c = search needs
+returns-2 c = reads-first _ (c .any-step .ensures)
 
 pub first-step-spec : {M : Type 1} → statement M
 first-step-spec =

@@ -3,7 +3,7 @@ use Prim.Native.Nat.{suc}
 use native.Mathlib.Omega.{arith}
 use mathlib.Core.List.{[], _∷_}
 use borrow.Author.Needs.{needs}
-use Rattle.log.specs.Reader.{fourth}
+use Rattle.model.specs.Rules.{fourthNumbers}
 use Rattle.log.proofs.StepParts.{number-inside, step-more, step-rejected}
 use Rattle.log.proofs.reader.read_b.Statement.{statement}
 use Rattle.log.proofs.reader.read_b.Tie as tie
@@ -30,14 +30,14 @@ returns : tie.Need-returns
 returns c =
     let s = c .before .before .before .before in
     let a = s .before .before .args in
-    step-more (a .kind) (a .a ∷ []) (a .log .now) (a .at) (s .read-number .ensures) (suc (fourth (a .kind)))
+    step-more (a .kind) (a .a ∷ []) (a .log .now) (a .at) (s .read-number .ensures) (suc (fourthNumbers (a .kind)))
     (c .before .before .value .given .1) (c .read-c .ensures)
 
 returns-2 : tie.Need-returns-2
 returns-2 c =
     let s = c .before .before .before in
     let a = s .before .before .args in
-    step-rejected (a .kind) (a .a ∷ []) (a .log .now) (a .at) (s .read-number .ensures) (suc (fourth (a .kind))) (c .before .r .given .1)
+    step-rejected (a .kind) (a .a ∷ []) (a .log .now) (a .at) (s .read-number .ensures) (suc (fourthNumbers (a .kind))) (c .before .r .given .1)
 
 pub read-b-spec : {M : Type 1} → statement M
 read-b-spec =

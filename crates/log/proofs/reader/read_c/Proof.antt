@@ -6,7 +6,7 @@ use borrow.Author.Tests.{le-leb, lt-leb}
 use borrow.Author.Needs.{needs}
 use Rattle.model.specs.Kinds.{kindOf, usedNumbers}
 use Rattle.model.specs.Log.{stepOf}
-use Rattle.log.specs.Reader.{fourth}
+use Rattle.model.specs.Rules.{fourthNumbers}
 use Rattle.log.proofs.StepParts.{number-inside, step-more, step-rejected, step-done}
 use Rattle.log.proofs.reader.read_c.Statement.{statement}
 use Rattle.log.proofs.reader.read_c.Tie as tie
@@ -37,7 +37,7 @@ read-d-requires : tie.Need-read-d-requires
 read-d-requires c κs = search needs
 
 returns : tie.Need-returns
-unfolding fourth
+unfolding fourthNumbers
 returns c =
     let u = c .before .before in
     let s = u .before .before .before .before .before in
@@ -49,7 +49,7 @@ enum-known-r : tie.Need-enum-known-r
 enum-known-r c = search needs
 
 returns-2 : tie.Need-returns-2
-unfolding fourth stepOf
+unfolding fourthNumbers stepOf
 returns-2 c =
     let u = c .before in
     let s = u .before .before .before .before .before in
@@ -62,7 +62,7 @@ returns-3 : tie.Need-returns-3
 returns-3 c =
     let s = c .before .before .before in
     let a = s .before .before .args in
-    step-rejected (a .kind) (a .a ∷ a .b ∷ []) (a .log .now) (a .at) (s .read-number .ensures) (fourth (a .kind)) (c .before .r .given .1)
+    step-rejected (a .kind) (a .a ∷ a .b ∷ []) (a .log .now) (a .at) (s .read-number .ensures) (fourthNumbers (a .kind)) (c .before .r .given .1)
 
 pub read-c-spec : {M : Type 1} → statement M
 read-c-spec =

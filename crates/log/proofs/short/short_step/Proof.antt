@@ -1,80 +1,69 @@
--- `short_step` meets its contract: the kind's rejection, or the step of the bytes. Assumes nothing.
+-- `log::short::short_step` meets its contract.
 use Prim.Native.Nat.{_≤_}
 use native.Mathlib.Omega.{arith}
-use mathlib.Core.Path.{_≡_, sym, _∙_}
 use lib.ListN.{getD}
+use Rattle.model.proofs.Rules.{rejection-told, known-told, fourth-most}
+use Rattle.log.proofs.ShortSteps.{byte-small, times-most, short-read, short-rejected}
 use borrow.Author.Needs.{needs}
-use Rattle.model.specs.Kinds.{kindOf}
-use Rattle.log.specs.Kinds.{kindRejection, Known}
-use Rattle.log.proofs.KindTests.{kind-known}
-use Rattle.log.proofs.ShortSteps.{fourth-most, times-most, short-read, short-rejected}
 use Rattle.log.proofs.short.short_step.Statement.{statement}
 use Rattle.log.proofs.short.short_step.Tie as tie
+
+-- the kind has one fourth number, or none
+most : (c : tie.After-fourths) → c .fourths .result ≤ 1
+most c = rw (c .fourths .ensures) (fourth-most _)
 
 shared-slice-read-kind : tie.Need-shared-slice-read-kind
 shared-slice-read-kind c = search needs
 
 cast-kind : tie.Need-cast-kind
-cast-kind c = search needs
+cast-kind c = omega (arith, c .shared-slice-known2 .given 0)
 
 of-requires : tie.Need-of-requires
 of-requires c κs = search needs
 
-rejection-requires : tie.Need-rejection-requires
-rejection-requires c κs = search needs
-
--- the function's entry, from the place after the kind's rejection
-abbrev entry : tie.After-rejection → tie.Start
-entry c = c .before .before .before .before
-
--- the kind's rejection, and that a kind without one is known
-kind-number : (c : tie.After-rejection) → c .rejection .result ≡ kindRejection (kindOf (getD (entry c .args .log .now) 0 0))
-kind-number c = rw (c .before .of .ensures) at (c .rejection .ensures)
-
-known : (c : tie.Else1) → Known (kindOf (getD (entry (c .before) .args .log .now) 0 0))
-known c = kind-known _ (sym (kind-number (c .before)) ∙ c .if1 .left)
-
--- it has one fourth number, or none
-most : (c : tie.After-fourth-numbers) → c .fourth-numbers .result ≤ 1
-most c = rw (c .fourth-numbers .ensures) (fourth-most _)
+rules-requires : tie.Need-rules-requires
+rules-requires c κs = search needs
 
 returns : tie.Need-returns
 returns c =
-    let a = entry (c .before) in
-    short-rejected (a .args .log .now) (a .pre) _ (kind-number (c .before)) (c .if1 .taken)
+    let r = c .before .before in
+    let s = r .before .before .before .before in
+    short-rejected (s .args .log .now) (s .pre) _ (rejection-told _ (r .before .of .ensures) (r .rules .ensures)) (c .if1 .taken)
 
-fourth-numbers-requires : tie.Need-fourth-numbers-requires
-fourth-numbers-requires c κs = known c
+fourths-requires : tie.Need-fourths-requires
+fourths-requires c κs =
+    let r = c .before .before in
+    known-told _ (r .before .of .ensures) (r .rules .ensures) (c .if1 .left)
 
 shared-slice-read-a : tie.Need-shared-slice-read-a
 shared-slice-read-a c = search needs
 
 cast-a : tie.Need-cast-a
-cast-a c = search needs
+cast-a c = omega (arith, c .shared-slice-known3 .given 1)
 
 shared-slice-read-b : tie.Need-shared-slice-read-b
 shared-slice-read-b c = search needs
 
 cast-b : tie.Need-cast-b
-cast-b c = search needs
+cast-b c = omega (arith, c .shared-slice-known4 .given 2)
 
 shared-slice-read-c : tie.Need-shared-slice-read-c
 shared-slice-read-c c = search needs
 
 cast-c : tie.Need-cast-c
-cast-c c = search needs
+cast-c c = omega (arith, c .shared-slice-known5 .given 3)
 
 shared-slice-read-d : tie.Need-shared-slice-read-d
 shared-slice-read-d c = search needs
 
 cast-d : tie.Need-cast-d
-cast-d c = search needs
+cast-d c = omega (arith, c .shared-slice-known6 .given 4)
 
 mul-d : tie.Need-mul-d
 mul-d c =
     let f = c .before .before .before .before in
-    let a = entry (f .before .before) in
-    omega (arith, times-most (getD (a .args .log .now) 4 0) (f .fourth-numbers .result) (a .pre .last) (most f))
+    let s = f .before .before .before .before .before .before .before in
+    omega (arith, times-most (getD (s .args .log .now) 4 0) (f .fourths .result) (byte-small _ (s .pre) 4 (omega arith)) (most f))
 
 add-t20 : tie.Need-add-t20
 add-t20 c = omega (arith, most (c .before .before .before .before))
@@ -82,8 +71,10 @@ add-t20 c = omega (arith, most (c .before .before .before .before))
 returns-2 : tie.Need-returns-2
 returns-2 c =
     let f = c .before .before .before .before in
-    let a = entry (f .before .before) in
-    short-read (a .args .log .now) (a .pre) (known (f .before)) (f .fourth-numbers .result) (f .fourth-numbers .ensures)
+    let r = f .before .before .before in
+    let s = r .before .before .before .before in
+    let k = known-told _ (r .before .of .ensures) (r .rules .ensures) (f .before .if1 .left) in
+    short-read (s .args .log .now) (s .pre) k (f .fourths .result) (f .fourths .ensures)
 
 pub short-step-spec : {M : Type 1} → statement M
 short-step-spec =
@@ -92,9 +83,9 @@ short-step-spec =
     shared-slice-read-kind
     cast-kind
     of-requires
-    rejection-requires
+    rules-requires
     returns
-    fourth-numbers-requires
+    fourths-requires
     shared-slice-read-a
     cast-a
     shared-slice-read-b

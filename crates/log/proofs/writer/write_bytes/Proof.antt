@@ -1,13 +1,13 @@
 -- `write_bytes` meets its contract: after each number the rest of the bytes is left to write. Assumes nothing.
 use Prim.Native.Nat.{ℕ, _≤_}
 use mathlib.Core.Bool.{cond}
-use mathlib.Core.List.{List, [], _++_, append-nil}
+use mathlib.Core.List.{List, [], _++_}
 use lib.Dec.{leb}
 use borrow.Author.Tests.{le-leb, lt-leb}
 use borrow.Author.Needs.{needs}
 use Rattle.model.specs.Numbers.{numberBytes}
 use Rattle.log.specs.Writer.{bytesOf}
-use Rattle.log.proofs.Progress.{Progress, progress-first, progress-next, progress-room, progress-end, progress-done}
+use Rattle.log.proofs.Progress.{Progress, progress-first, progress-next, progress-room, progress-last, progress-end}
 use Rattle.log.proofs.writer.write_bytes.Statement.{statement}
 use Rattle.log.proofs.writer.write_bytes.Tie as tie
 
@@ -48,33 +48,31 @@ at-kind c = progress-first _ _ _ (c .pre .within)
 at-a : (c : tie.After-write-number) → Left (entry-1 c) (c .write-number .last .0) (c .write-number .result) (from-a (entry-1 c))
 at-a c =
     let s = entry-1 c in
-    progress-next (numberBytes (s .args .s .kind)) (from-a s) (at-kind s) (c .write-number .ensures .0) (c .write-number .ensures .1)
+    progress-next (numberBytes (s .args .s .kind)) (from-a s) (at-kind s) (c .write-number .ensures)
 
 at-b : (c : tie.After-write-number2) → Left (entry-2 c) (c .write-number2 .last .0) (c .write-number2 .result) (from-b (entry-2 c))
 at-b c =
     let l = c .before .before .before .before in
     let s = entry-1 l in
-    progress-next (numberBytes (s .args .s .a)) (from-b s) (at-a l) (c .write-number2 .ensures .0) (c .write-number2 .ensures .1)
+    progress-next (numberBytes (s .args .s .a)) (from-b s) (at-a l) (c .write-number2 .ensures)
 
 at-c : (c : tie.After-write-number3) → Left (entry-3 c) (c .write-number3 .last .0) (c .write-number3 .result) (from-c (entry-3 c))
 at-c c =
     let l = c .before .before .before .before in
     let s = entry-2 l in
-    progress-next (numberBytes (s .args .s .b)) (from-c s) (at-b l) (c .write-number3 .ensures .0) (c .write-number3 .ensures .1)
+    progress-next (numberBytes (s .args .s .b)) (from-c s) (at-b l) (c .write-number3 .ensures)
 
 at-d : (c : tie.After-write-number4) → Left (entry-4 c) (c .write-number4 .last .0) (c .write-number4 .result) (from-d (entry-4 c))
 at-d c =
     let l = c .before .before .before .before in
     let s = entry-3 l in
-    progress-next (numberBytes (s .args .s .c)) (from-d s) (at-c l) (c .write-number4 .ensures .0) (c .write-number4 .ensures .1)
+    progress-next (numberBytes (s .args .s .c)) (from-d s) (at-c l) (c .write-number4 .ensures)
 
 -- of four numbers the last one is left
 only-d :
     (l : tie.After-write-number4) → 4 ≤ entry-4 l .args .used
-    → Left (entry-4 l) (l .write-number4 .last .0) (l .write-number4 .result) (numberBytes (entry-4 l .args .s .d) ++ [])
-only-d l h =
-    let s = entry-4 l in
-    rw (append-nil (numberBytes (s .args .s .d))) (rw (le-leb 4 (s .args .used) h) at (at-d l))
+    → Left (entry-4 l) (l .write-number4 .last .0) (l .write-number4 .result) (numberBytes (entry-4 l .args .s .d))
+only-d l h = rw (le-leb 4 (entry-4 l .args .used) h) at (at-d l)
 
 write-number-requires : tie.Need-write-number-requires
 write-number-requires c κs =
@@ -103,7 +101,7 @@ write-number-requires-5 : tie.Need-write-number-requires-5
 write-number-requires-5 c κs =
     let l = c .before .before .before .before in
     let s = entry-4 l in
-    (s .pre .d, progress-room (numberBytes (s .args .s .d)) [] (only-d l (c .before .if1 .taken)))
+    (s .pre .d, only-d l (c .before .if1 .taken) .room)
 
 same-length : tie.Need-same-length
 same-length c = search needs
@@ -112,9 +110,7 @@ returns : tie.Need-returns
 returns c =
     let w = c .before .before in
     let l = w .before .before .before .before .before in
-    let d = numberBytes (entry-4 l .args .s .d) in
-    let t = progress-next d [] (only-d l (w .before .before .if1 .taken)) (w .write-number5 .ensures .0) (w .write-number5 .ensures .1) in
-    (progress-end t, progress-done t)
+    progress-end (progress-last (only-d l (w .before .before .if1 .taken)) (w .write-number5 .ensures))
 
 same-length-2 : tie.Need-same-length-2
 same-length-2 c = search needs
@@ -122,8 +118,7 @@ same-length-2 c = search needs
 returns-2 : tie.Need-returns-2
 returns-2 c =
     let l = c .before .before .before in
-    let t = rw (lt-leb 4 (entry-4 l .args .used) (c .if1 .left)) at (at-d l) in
-    (progress-end t, progress-done t)
+    progress-end (rw (lt-leb 4 (entry-4 l .args .used) (c .if1 .left)) at (at-d l))
 
 pub write-bytes-spec : {M : Type 1} → statement M
 write-bytes-spec =

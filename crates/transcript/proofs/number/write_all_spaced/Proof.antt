@@ -1,8 +1,8 @@
 -- `transcript::number::write_all_spaced` meets its contract.
 use Prim.Native.Nat.{_-_}
-use borrow.Author.Needs.{needs}
 use lib.ListN.{length}
 use Rattle.transcript.proofs.Stores.{Listed, list-start, list-room, list-more, list-end}
+use borrow.Author.Needs.{needs}
 use Rattle.transcript.proofs.number.write_all_spaced.Statement.{statement}
 use Rattle.transcript.proofs.number.write_all_spaced.Tie as tie
 
@@ -31,10 +31,13 @@ loop-less : tie.Need-loop-less Inv-loop μ-loop
 loop-less c = search needs
 
 loop-again : tie.Need-loop-again Inv-loop μ-loop
-loop-again c = list-more (c .before .before .before .before .before .before .loop .inv) (c .before .before .before .before .before .loop-test .taken) (c .before .before .write-spaced .ensures .0) (c .before .before .write-spaced .ensures .1)
+loop-again c =
+    let w = c .before .before in
+    let t = w .before .before .before in
+    list-more (t .before .loop .inv) (t .loop-test .taken) (w .write-spaced .ensures)
 
 same-length : tie.Need-same-length Inv-loop μ-loop
-same-length c = c .before .loop .inv .kept
+same-length c = c .before .loop .inv .rest .kept
 
 returns : tie.Need-returns Inv-loop μ-loop
 returns c = list-end (c .before .loop .inv) (c .loop-test .left)

@@ -19,7 +19,8 @@ write-number-requires c κs = simp length-set (omega (arith, c .before .before .
 same-length : tie.Need-same-length
 same-length c =
     let s = c .before .before .before .before .before in
-    sets-kept (s .args .out .now) (s .args .at) (spaced (s .args .n)) (c .before .before .write-number .ensures .1 ∙ spaced-stores (s .args .out .now) (s .args .at) (s .args .n))
+    let e = c .before .before .write-number .ensures .1 ∙ spaced-stores (s .args .out .now) (s .args .at) (s .args .n) in
+    sets-kept (s .args .out .now) (s .args .at) (spaced (s .args .n)) e
 
 returns : tie.Need-returns
 returns c =

@@ -1,29 +1,26 @@
 -- `transcript::shards::write_entries` meets its contract.
-use borrow.Author.Needs.{needs}
 use Rattle.model.specs.Transcript.{spacedAll}
 use Rattle.histories.specs.Entries.{entriesAt}
-use Rattle.transcript.proofs.Chains.{put, put-kept}
 use Rattle.histories.proofs.Stable.{entries-part}
+use Rattle.transcript.proofs.Stores.{sets-kept}
+use borrow.Author.Needs.{needs}
 use Rattle.transcript.proofs.shards.write_entries.Statement.{statement}
 use Rattle.transcript.proofs.shards.write_entries.Tie as tie
 
-add-count : tie.Need-add-count
-add-count c = search needs
+add-from : tie.Need-add-from
+add-from c = search needs
 
-mul-count : tie.Need-mul-count
-mul-count c = search needs
+add-end : tie.Need-add-end
+add-end c = search needs
 
-shared-slice-read-count : tie.Need-shared-slice-read-count
-shared-slice-read-count c = search needs
+mul-end : tie.Need-mul-end
+mul-end c = search needs
 
-add-write-all-spaced : tie.Need-add-write-all-spaced
-add-write-all-spaced c = search needs
+shared-slice-read-end : tie.Need-shared-slice-read-end
+shared-slice-read-end c = search needs
 
-add-write-all-spaced-2 : tie.Need-add-write-all-spaced-2
-add-write-all-spaced-2 c = search needs
-
-add-write-all-spaced-3 : tie.Need-add-write-all-spaced-3
-add-write-all-spaced-3 c = search needs
+add-end-2 : tie.Need-add-end-2
+add-end-2 c = search needs
 
 mul-write-all-spaced : tie.Need-mul-write-all-spaced
 mul-write-all-spaced c = search needs
@@ -42,26 +39,28 @@ write-all-spaced-requires c κs =
     let s = c .before .before .before .before .before in
     rw (entries-part (s .args .state .now) (s .args .place)) (s .pre .room)
 
-returns : tie.Need-returns
-returns c =
-    let s = c .before .before .before .before .before .before .before .before in
-    rw (← entries-part (s .args .state .now) (s .args .place)) (c .before .before .write-all-spaced .ensures)
-
 same-length : tie.Need-same-length
 same-length c =
-    let s = c .before .before .before .before .before .before .before .before in
-    put-kept (put (s .args .out .now) (s .args .at) (spacedAll (entriesAt (s .args .state .now) (s .args .place))) (returns c))
+    let w = c .before .before in
+    let a = w .before .before .before .before .before .before .args in
+    let e = rw (entries-part (a .state .now) (a .place)) at (w .write-all-spaced .ensures .1) in
+    sets-kept (a .out .now) (a .at) (spacedAll (entriesAt (a .state .now) (a .place))) e
+
+returns : tie.Need-returns
+returns c =
+    let w = c .before .before in
+    let a = w .before .before .before .before .before .before .args in
+    rw (← entries-part (a .state .now) (a .place)) (w .write-all-spaced .ensures)
 
 pub write-entries-spec : {M : Type 1} → statement M
 write-entries-spec =
     tie.close
     (tie.spec
-    add-count
-    mul-count
-    shared-slice-read-count
-    add-write-all-spaced
-    add-write-all-spaced-2
-    add-write-all-spaced-3
+    add-from
+    add-end
+    mul-end
+    shared-slice-read-end
+    add-end-2
     mul-write-all-spaced
     sub-write-all-spaced
     part-write-all-spaced-start

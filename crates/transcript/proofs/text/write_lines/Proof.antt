@@ -1,23 +1,72 @@
 -- `transcript::text::write_lines` meets its contract.
-use Prim.Native.Nat.{ℕ}
+use Prim.Native.Nat.{ℕ, _<_}
 use native.Mathlib.Nat.{zero-add}
 use native.Mathlib.Omega.{arith}
-use borrow.Author.Needs.{needs}
 use mathlib.Core.Path.{_≡_, _∙_}
-use mathlib.Core.List.{List, [], _∷_, _++_}
+use mathlib.Core.List.{List, [], _++_}
 use lib.ListN.{length, replicate, length-replicate}
-use Rattle.model.specs.Setup.{afterSetup}
 use Rattle.model.specs.Transcript.{programPlan, programStart, shardLine, lastLine, lines}
 use Rattle.replay.specs.Run.{reported}
-use Rattle.transcript.proofs.Chains.{put, put-pair, put-kept, put-then, first-room, rest-room}
-use Rattle.transcript.proofs.WholeText.{begun, run-room, whole, steps-put, of-shard, whole-room}
+use Rattle.histories.specs.History.{OfShard}
+use Rattle.log.proofs.Progress.{Progress, progress-next, progress-room, progress-last, progress-end}
+use Rattle.transcript.proofs.WholeText.{begun, run-room, run-written, of-shard}
+use borrow.Author.Needs.{needs}
 use Rattle.transcript.proofs.text.write_lines.Statement.{statement}
 use Rattle.transcript.proofs.text.write_lines.Tie as tie
 
--- the state after setup, from 4,224 zeros and the words of the plan
-started : {w : List ℕ} → w ≡ afterSetup (replicate 4224 0) (1 ∷ 3 ∷ 0 ∷ 0 ∷ 12 ∷ 2 ∷ []) → w ≡ programStart
+-- the state after setup, from zeros and the words of the plan
+begins : (c : tie.After-setup) → c .setup .last .0 ≡ programStart
 unfolding programPlan
-started e = begun (replicate 4224 0) (length-replicate {A = ℕ} 4224 0) e
+begins c = begun (replicate 4224 0) (length-replicate {A = ℕ} 4224 0) (c .setup .ensures .1)
+
+-- the function's entry, from the place after the run, and the run from the place after each part
+abbrev entry-0 : tie.After-write-steps → tie.Start
+entry-0 c = c .before .before .before .before .before .before .before .before .before
+
+abbrev run-1 : tie.After-write-shard → tie.After-write-steps
+run-1 c = c .before .before .before .before .before .before
+
+abbrev run-2 : tie.After-write-shard2 → tie.After-write-steps
+run-2 c = run-1 (c .before .before .before .before .before)
+
+abbrev run-3 : tie.After-write-last → tie.After-write-steps
+run-3 c = run-2 (c .before .before .before .before)
+
+-- the state that the run leaves, and the last line
+abbrev left : tie.After-write-steps → List ℕ
+left c = c .write-steps .last .0
+
+abbrev last : tie.After-write-steps → List ℕ
+last c = let p = c .write-steps .result in lastLine (reported (p .stop) (p .tried) (p .rejected) (p .bytes))
+
+of-state : (c : tie.After-write-steps) (z : ℕ) → z < 2 → OfShard (left c) z
+of-state c z h =
+    let s = entry-0 c in
+    of-shard (s .args .log .now) (s .args .out .now) (s .pre) (begins (c .before .before .before .before)) (c .write-steps .ensures) z h
+
+-- the output and the position, with what is left to write
+abbrev Left : tie.After-write-steps → List ℕ → ℕ → List ℕ → Type 0
+Left c out p rest = let s = entry-0 c in Progress (s .args .out .now) 0 (lines (s .args .log .now)) out p rest
+
+at-first : (c : tie.After-write-steps)
+    → Left c (c .write-steps .last .1 .1 .0) (c .write-steps .result .end) (shardLine (left c) 0 ++ (shardLine (left c) 1 ++ last c))
+at-first c =
+    let s = entry-0 c in
+    run-written (s .args .log .now) (s .args .out .now) (s .pre) (begins (c .before .before .before .before)) (c .write-steps .ensures)
+
+at-second : (c : tie.After-write-shard)
+    → let r = run-1 c in Left r (c .write-shard .last .0) (c .write-shard .result) (shardLine (left r) 1 ++ last r)
+at-second c =
+    let r = run-1 c in
+    progress-next (shardLine (left r) 0) (shardLine (left r) 1 ++ last r) (at-first r) (c .write-shard .ensures)
+
+at-last : (c : tie.After-write-shard2) → let r = run-2 c in Left r (c .write-shard2 .last .0) (c .write-shard2 .result) (last r)
+at-last c =
+    let r = run-2 c in
+    progress-next (shardLine (left r) 1) (last r) (at-second (c .before .before .before .before .before)) (c .write-shard2 .ensures)
+
+done : (c : tie.After-write-last) → Left (run-3 c) (c .write-last .last .0) (c .write-last .result) []
+done c = progress-last (at-last (c .before .before .before .before)) (c .write-last .ensures)
 
 slice-aggregate-setup : tie.Need-slice-aggregate-setup
 slice-aggregate-setup c = search needs
@@ -33,86 +82,37 @@ slice-aggregate-write-steps c = search needs
 
 write-steps-requires : tie.Need-write-steps-requires
 write-steps-requires c κs =
-    let s = c .before .before .before .before .before .before .before .before in
-    let b = started (c .before .before .before .setup .ensures .1) in
-    run-room (s .args .log .now) (s .args .out .now) (s .pre) b
+    let t = c .before .before .before in
+    let s = t .before .before .before .before .before in
+    run-room (s .args .log .now) (s .args .out .now) (s .pre) (begins t)
 
 slice-aggregate-write-shard : tie.Need-slice-aggregate-write-shard
 slice-aggregate-write-shard c = search needs
 
 write-shard-requires : tie.Need-write-shard-requires
 write-shard-requires c κs =
-    let s = c .before .before .before .before .before .before .before .before .before .before .before .before .before .before in
-    let b = started (c .before .before .before .before .before .before .before .before .before .setup .ensures .1) in
-    let e = c .before .before .before .before .before .write-steps .ensures in
-    let p = c .before .before .before .before .before .write-steps .result in
-    let p1 = steps-put (s .args .log .now) (s .args .out .now) (s .pre) b (e .0) (e .1) (e .2) in
-    let r1 = whole-room (s .args .log .now) (s .args .out .now) (s .pre) b (e .0) (e .1) (e .2) in
-    let w = c .before .before .before .before .before .write-steps .last .0 in
-    record {
-      of = of-shard (s .args .log .now) (s .args .out .now) (s .pre) b (e .0) (e .1) (e .2) 0 (omega arith);
-      room = first-room (c .before .before .before .before .before .write-steps .last .1 .1 .0) (p .end) (shardLine w 0) (shardLine w 1 ++ lastLine (reported (p .stop) (p .tried) (p .rejected) (p .bytes))) (rest-room p1 (shardLine w 0 ++ (shardLine w 1 ++ lastLine (reported (p .stop) (p .tried) (p .rejected) (p .bytes)))) r1);
-    }
+    let r = c .before .before .before .before .before in
+    record { of = of-state r 0 (omega arith); room = progress-room (shardLine (left r) 0) (shardLine (left r) 1 ++ last r) (at-first r) }
 
 slice-aggregate-write-shard-2 : tie.Need-slice-aggregate-write-shard-2
 slice-aggregate-write-shard-2 c = search needs
 
 write-shard-requires-2 : tie.Need-write-shard-requires-2
 write-shard-requires-2 c κs =
-    let s = c .before .before .before .before .before .before .before .before .before .before .before .before .before .before .before .before .before .before .before in
-    let b = started (c .before .before .before .before .before .before .before .before .before .before .before .before .before .before .setup .ensures .1) in
-    let e = c .before .before .before .before .before .before .before .before .before .before .write-steps .ensures in
-    let p = c .before .before .before .before .before .before .before .before .before .before .write-steps .result in
-    let p1 = steps-put (s .args .log .now) (s .args .out .now) (s .pre) b (e .0) (e .1) (e .2) in
-    let r1 = whole-room (s .args .log .now) (s .args .out .now) (s .pre) b (e .0) (e .1) (e .2) in
-    let w = c .before .before .before .before .before .before .before .before .before .before .write-steps .last .0 in
-    let p2 = put (c .before .before .before .before .before .before .before .before .before .before .write-steps .last .1 .1 .0) (p .end) (shardLine w 0) (c .before .before .before .before .write-shard .ensures) in
-    record {
-      of = of-shard (s .args .log .now) (s .args .out .now) (s .pre) b (e .0) (e .1) (e .2) 1 (omega arith);
-      room = first-room (c .before .before .before .before .write-shard .last .0) (c .before .before .before .before .write-shard .result) (shardLine w 1) (lastLine (reported (p .stop) (p .tried) (p .rejected) (p .bytes))) (rest-room p2 (shardLine w 1 ++ lastLine (reported (p .stop) (p .tried) (p .rejected) (p .bytes))) (rest-room p1 (shardLine w 0 ++ (shardLine w 1 ++ lastLine (reported (p .stop) (p .tried) (p .rejected) (p .bytes)))) r1));
-    }
+    let d = c .before .before .before .before in
+    let r = run-1 d in
+    record { of = of-state r 1 (omega arith); room = progress-room (shardLine (left r) 1) (last r) (at-second d) }
 
 write-last-requires : tie.Need-write-last-requires
-write-last-requires c κs =
-    let s = c .before .before .before .before .before .before .before .before .before .before .before .before .before .before .before .before .before .before .before .before .before .before .before in
-    let b = started (c .before .before .before .before .before .before .before .before .before .before .before .before .before .before .before .before .before .before .setup .ensures .1) in
-    let e = c .before .before .before .before .before .before .before .before .before .before .before .before .before .before .write-steps .ensures in
-    let p = c .before .before .before .before .before .before .before .before .before .before .before .before .before .before .write-steps .result in
-    let p1 = steps-put (s .args .log .now) (s .args .out .now) (s .pre) b (e .0) (e .1) (e .2) in
-    let r1 = whole-room (s .args .log .now) (s .args .out .now) (s .pre) b (e .0) (e .1) (e .2) in
-    let w = c .before .before .before .before .before .before .before .before .before .before .before .before .before .before .write-steps .last .0 in
-    let p2 = put (c .before .before .before .before .before .before .before .before .before .before .before .before .before .before .write-steps .last .1 .1 .0) (p .end) (shardLine w 0) (c .before .before .before .before .before .before .before .before .write-shard .ensures) in
-    let p3 = put (c .before .before .before .before .before .before .before .before .write-shard .last .0) (c .before .before .before .before .before .before .before .before .write-shard .result) (shardLine w 1) (c .before .before .before .write-shard2 .ensures) in
-    rest-room p3 (lastLine (reported (p .stop) (p .tried) (p .rejected) (p .bytes))) (rest-room p2 (shardLine w 1 ++ lastLine (reported (p .stop) (p .tried) (p .rejected) (p .bytes))) (rest-room p1 (shardLine w 0 ++ (shardLine w 1 ++ lastLine (reported (p .stop) (p .tried) (p .rejected) (p .bytes)))) r1))
+write-last-requires c κs = at-last (c .before .before .before) .room
 
 same-length : tie.Need-same-length
-same-length c =
-    let s = c .before .before .before .before .before .before .before .before .before .before .before .before .before .before .before .before .before .before .before .before .before .before .before .before .before .before in
-    let b = started (c .before .before .before .before .before .before .before .before .before .before .before .before .before .before .before .before .before .before .before .before .before .setup .ensures .1) in
-    let e = c .before .before .before .before .before .before .before .before .before .before .before .before .before .before .before .before .before .write-steps .ensures in
-    let p = c .before .before .before .before .before .before .before .before .before .before .before .before .before .before .before .before .before .write-steps .result in
-    let p1 = steps-put (s .args .log .now) (s .args .out .now) (s .pre) b (e .0) (e .1) (e .2) in
-    let r1 = whole-room (s .args .log .now) (s .args .out .now) (s .pre) b (e .0) (e .1) (e .2) in
-    let w = c .before .before .before .before .before .before .before .before .before .before .before .before .before .before .before .before .before .write-steps .last .0 in
-    let p2 = put (c .before .before .before .before .before .before .before .before .before .before .before .before .before .before .before .before .before .write-steps .last .1 .1 .0) (p .end) (shardLine w 0) (c .before .before .before .before .before .before .before .before .before .before .before .write-shard .ensures) in
-    let p3 = put (c .before .before .before .before .before .before .before .before .before .before .before .write-shard .last .0) (c .before .before .before .before .before .before .before .before .before .before .before .write-shard .result) (shardLine w 1) (c .before .before .before .before .before .before .write-shard2 .ensures) in
-    let p4 = put (c .before .before .before .before .before .before .write-shard2 .last .0) (c .before .before .before .before .before .before .write-shard2 .result) (lastLine (reported (p .stop) (p .tried) (p .rejected) (p .bytes))) (c .before .before .write-last .ensures) in
-    put-kept (put-then p1 (put-then p2 (put-then p3 p4)))
+same-length c = done (c .before .before) .kept
 
 returns : tie.Need-returns
 returns c =
-    let s = c .before .before .before .before .before .before .before .before .before .before .before .before .before .before .before .before .before .before .before .before .before .before .before .before .before .before in
-    let b = started (c .before .before .before .before .before .before .before .before .before .before .before .before .before .before .before .before .before .before .before .before .before .setup .ensures .1) in
-    let e = c .before .before .before .before .before .before .before .before .before .before .before .before .before .before .before .before .before .write-steps .ensures in
-    let p = c .before .before .before .before .before .before .before .before .before .before .before .before .before .before .before .before .before .write-steps .result in
-    let p1 = steps-put (s .args .log .now) (s .args .out .now) (s .pre) b (e .0) (e .1) (e .2) in
-    let r1 = whole-room (s .args .log .now) (s .args .out .now) (s .pre) b (e .0) (e .1) (e .2) in
-    let w = c .before .before .before .before .before .before .before .before .before .before .before .before .before .before .before .before .before .write-steps .last .0 in
-    let p2 = put (c .before .before .before .before .before .before .before .before .before .before .before .before .before .before .before .before .before .write-steps .last .1 .1 .0) (p .end) (shardLine w 0) (c .before .before .before .before .before .before .before .before .before .before .before .write-shard .ensures) in
-    let p3 = put (c .before .before .before .before .before .before .before .before .before .before .before .write-shard .last .0) (c .before .before .before .before .before .before .before .before .before .before .before .write-shard .result) (shardLine w 1) (c .before .before .before .before .before .before .write-shard2 .ensures) in
-    let p4 = put (c .before .before .before .before .before .before .write-shard2 .last .0) (c .before .before .before .before .before .before .write-shard2 .result) (lastLine (reported (p .stop) (p .tried) (p .rejected) (p .bytes))) (c .before .before .write-last .ensures) in
-    let t = rw (← whole (s .args .log .now) (s .args .out .now) (s .pre) b (e .0) (e .1) (e .2)) at (put-pair (put-then p1 (put-then p2 (put-then p3 p4)))) in
-    (t .0 ∙ zero-add (length (lines (s .args .log .now))), t .1)
+    let t = progress-end (done (c .before .before)) in
+    (t .0 ∙ zero-add (length (lines (entry-0 (run-3 (c .before .before)) .args .log .now))), t .1)
 
 pub write-lines-spec : {M : Type 1} → statement M
 write-lines-spec =

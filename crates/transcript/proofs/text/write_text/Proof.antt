@@ -1,10 +1,10 @@
 -- `transcript::text::write_text` meets its contract.
 use native.Mathlib.Omega.{arith}
-use borrow.Author.Needs.{needs}
-use Rattle.model.specs.Transcript.{lines}
+use mathlib.Core.List.{_++_}
+use Rattle.model.specs.Transcript.{newline, tooLongWords, lines}
 use Rattle.transcript.proofs.Stores.{sets-kept}
-use Rattle.transcript.proofs.Chains.{put, put-kept}
-use Rattle.transcript.proofs.WholeText.{tooLongText, text-too-long, text-lines}
+use Rattle.transcript.proofs.WholeText.{text-too-long, text-lines}
+use borrow.Author.Needs.{needs}
 use Rattle.transcript.proofs.text.write_text.Statement.{statement}
 use Rattle.transcript.proofs.text.write_text.Tie as tie
 
@@ -18,12 +18,14 @@ write-bytes-requires c κs =
 
 same-length : tie.Need-same-length
 same-length c =
-    put-kept (put (c .before .before .before .before .before .before .before .before .args .out .now) 0 tooLongText (c .before .before .write-bytes .ensures))
+    let w = c .before .before in
+    sets-kept (w .before .before .before .before .before .before .args .out .now) 0 (tooLongWords ++ newline) (w .write-bytes .ensures .1)
 
 returns : tie.Need-returns
 returns c =
-    let s = c .before .before .before .before .before .before .before .before in
-    rw (text-too-long (s .args .log .now) (omega (arith, c .before .before .before .before .before .if1 .taken))) (c .before .before .write-bytes .ensures)
+    let w = c .before .before in
+    let t = w .before .before .before in
+    rw (text-too-long (t .before .before .before .args .log .now) (omega (arith, t .if1 .taken))) (w .write-bytes .ensures)
 
 write-lines-requires : tie.Need-write-lines-requires
 write-lines-requires c κs =
@@ -32,13 +34,15 @@ write-lines-requires c κs =
 
 same-length-2 : tie.Need-same-length-2
 same-length-2 c =
-    let s = c .before .before .before .before .before .before .before in
-    sets-kept (s .args .out .now) 0 (lines (s .args .log .now)) (c .before .before .write-lines .ensures .1)
+    let w = c .before .before in
+    let a = w .before .before .before .before .before .args in
+    sets-kept (a .out .now) 0 (lines (a .log .now)) (w .write-lines .ensures .1)
 
 returns-2 : tie.Need-returns-2
 returns-2 c =
-    let s = c .before .before .before .before .before .before .before in
-    rw (text-lines (s .args .log .now) (omega (arith, c .before .before .before .before .if1 .left))) (c .before .before .write-lines .ensures)
+    let w = c .before .before in
+    let t = w .before .before in
+    rw (text-lines (t .before .before .before .args .log .now) (omega (arith, t .if1 .left))) (w .write-lines .ensures)
 
 pub write-text-spec : {M : Type 1} → statement M
 write-text-spec =

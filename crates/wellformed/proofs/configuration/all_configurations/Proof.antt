@@ -6,7 +6,7 @@ use mathlib.Core.Bool.{true}
 use borrow.Author.Tests.{not-true, not-false}
 use Rattle.model.specs.Tests.{allBelow}
 use Rattle.model.specs.WellFormed.{isConfigurationOf}
-use Rattle.wellformed.proofs.Ranges.{more, fails, reached}
+use Rattle.model.proofs.Ranges.{more, fails, reached}
 use Rattle.wellformed.proofs.configuration.all_configurations.Statement.{statement}
 use Rattle.wellformed.proofs.configuration.all_configurations.Tie as tie
 

@@ -10,7 +10,7 @@ use borrow.Author.Tests.{not-true, not-false}
 use Rattle.model.specs.Tests.{allBelow}
 use Rattle.model.specs.Layout.{part}
 use Rattle.model.specs.WellFormed.{isPart}
-use Rattle.wellformed.proofs.Ranges.{more, fails, reached}
+use Rattle.model.proofs.Ranges.{more, fails, reached}
 use Rattle.wellformed.proofs.configuration.all_parts.Statement.{statement}
 use Rattle.wellformed.proofs.configuration.all_parts.Tie as tie
 

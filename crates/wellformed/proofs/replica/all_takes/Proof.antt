@@ -7,7 +7,7 @@ use lib.Dec.{ltb}
 use lib.ListN.{length, getD}
 use Rattle.model.specs.Tests.{allBelow}
 use Rattle.model.specs.Entries.{isTake}
-use Rattle.wellformed.proofs.Ranges.{reached, of-below}
+use Rattle.model.proofs.Ranges.{reached, of-below}
 use Rattle.wellformed.proofs.Takes.{takes-more}
 use Rattle.wellformed.proofs.replica.all_takes.Statement.{statement}
 use Rattle.wellformed.proofs.replica.all_takes.Tie as tie
@@ -39,8 +39,10 @@ loop-less c = omega arith
 
 loop-again : tie.Need-loop-again Inv-loop μ-loop
 loop-again c =
-    let at = c .before .before .before .loop in
-    (omega arith, takes-more (c .before .before .before .before .before .args .words .now) (at .i) (at .joined) (c .wrapping-sub-u64 .result) (search needs) (c .wrapping-sub-u64 .ensures) (at .inv .1))
+    let l = c .before .before .before in
+    let at = l .loop in
+    let words = l .before .before .args .words .now in
+    (omega arith, takes-more words (at .i) (at .joined) (c .wrapping-sub-u64 .result) (search needs) (c .wrapping-sub-u64 .ensures) (at .inv .1))
 
 returns : tie.Need-returns Inv-loop μ-loop
 returns c = rw of-below (reached _ (c .before .loop .i) _ _ (omega arith) (omega arith) (c .before .loop .inv .1))

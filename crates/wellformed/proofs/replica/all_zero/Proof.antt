@@ -5,7 +5,7 @@ use mathlib.Core.Path.{_≡_, refl}
 use lib.Dec.{eqb}
 use lib.ListN.{length, getD}
 use Rattle.model.specs.Tests.{allBelow}
-use Rattle.wellformed.proofs.Ranges.{reached}
+use Rattle.model.proofs.Ranges.{reached}
 use Rattle.wellformed.proofs.Zeros.{joined-more}
 use Rattle.wellformed.proofs.replica.all_zero.Statement.{statement}
 use Rattle.wellformed.proofs.replica.all_zero.Tie as tie

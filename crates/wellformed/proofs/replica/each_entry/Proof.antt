@@ -7,7 +7,7 @@ use lib.ListN.{length, getD}
 use borrow.Author.Tests.{not-true, not-false}
 use Rattle.model.specs.Tests.{allBelow}
 use Rattle.model.specs.Entries.{isEntry}
-use Rattle.wellformed.proofs.Ranges.{more, fails, reached, of-below}
+use Rattle.model.proofs.Ranges.{more, fails, reached, of-below}
 use Rattle.wellformed.proofs.replica.each_entry.Statement.{statement}
 use Rattle.wellformed.proofs.replica.each_entry.Tie as tie
 

@@ -6,7 +6,7 @@ use mathlib.Core.Path.{sym, ap, _∙_}
 use mathlib.Core.Bool.{false≢true}
 use lib.ListN.{getD}
 use borrow.Author.Tests.{not-true, not-false}
-use Rattle.wellformed.proofs.Ranges.{not-passed}
+use Rattle.model.proofs.Ranges.{not-passed}
 use Rattle.wellformed.proofs.Zeros.{zeros, to-end}
 use Rattle.wellformed.proofs.Words.{used, last-test, waits-test, test-waits}
 use borrow.Author.Needs.{needs}
@@ -43,9 +43,9 @@ may-wait-requires c κs = tt
 
 returns-5 : tie.Need-returns-5
 returns-5 c =
-    not-passed _
-    (λ e. false≢true
-    (sym (not-true _ (c .if5 .taken)) ∙ c .before .may-wait .ensures ∙ waits-test _ _ _ (used _ _ _ (c .before .before .before .before .before .before .before .before .before .before .pre) e .waits)))
+    let w = c .before in
+    let s = w .before .before .before .before .before .before .before .before .before in
+    not-passed _ (λ e. false≢true (sym (not-true _ (c .if5 .taken)) ∙ w .may-wait .ensures ∙ waits-test _ _ _ (used _ _ _ (s .pre) e .waits)))
 
 sub-all-zero : tie.Need-sub-all-zero
 sub-all-zero c = omega arith
@@ -61,8 +61,9 @@ all-zero-requires c κs = tt
 
 returns-6 : tie.Need-returns-6
 returns-6 c =
-    not-passed _
-    (λ e. false≢true (sym (not-true _ (c .if6 .taken)) ∙ c .before .all-zero .ensures ∙ used _ _ _ (c .before .before .before .before .before .before .before .before .before .before .before .before .before .pre) e .reserved))
+    let z = c .before in
+    let s = z .before .before .before .before .before .before .before .before .before .before .before .before in
+    not-passed _ (λ e. false≢true (sym (not-true _ (c .if6 .taken)) ∙ z .all-zero .ensures ∙ used _ _ _ (s .pre) e .reserved))
 
 add-end : tie.Need-add-end
 add-end c = omega arith
@@ -81,8 +82,10 @@ all-entries-requires c κs = tt
 
 returns-7 : tie.Need-returns-7
 returns-7 c =
-    not-passed _
-    (λ e. false≢true (sym (not-true _ (c .if7 .taken)) ∙ (rw (add-sub-cancel-left 8) at (c .before .all-entries .ensures)) ∙ used _ _ _ (c .before .before .before .before .before .before .before .before .before .before .before .before .before .before .before .before .pre) e .entries))
+    let a = c .before in
+    let s = a .before .before .before .before .before .before .before .before .before .before .before .before .before .before .before in
+    let entries = rw (add-sub-cancel-left 8) at (a .all-entries .ensures) in
+    not-passed _ (λ e. false≢true (sym (not-true _ (c .if7 .taken)) ∙ entries ∙ used _ _ _ (s .pre) e .entries))
 
 mul-all-zero : tie.Need-mul-all-zero
 mul-all-zero c = omega arith
@@ -101,7 +104,10 @@ all-zero-requires-2 c κs = tt
 
 returns-8 : tie.Need-returns-8
 returns-8 c =
-    let start = c .before .before .before .before .before .before .before .before .before .before .before .before .before .before .before .before .before .before in
+    let a = c .before .before .before in
+    let z = a .before .before .before in
+    let m = z .before .before .before in
+    let start = m .before .before .before .before .before .before .before .before .before in
     let w = start .args .words .now in
     c .all-zero2 .ensures ∙ ap zeros (to-end (8 + getD w 1 0) w)
     ∙ last-test _ _ _ (start .pre)
@@ -110,9 +116,9 @@ returns-8 c =
       mode-most = omega arith;
       few = omega arith;
       stable-most = omega arith;
-      waits = test-waits _ _ _ (sym (c .before .before .before .before .before .before .before .before .before .may-wait .ensures) ∙ not-false _ (c .before .before .before .before .before .before .before .before .if5 .left));
-      reserved = sym (c .before .before .before .before .before .before .all-zero .ensures) ∙ not-false _ (c .before .before .before .before .before .if6 .left);
-      entries = sym (rw (add-sub-cancel-left 8) at (c .before .before .before .all-entries .ensures)) ∙ not-false _ (c .before .before .if7 .left);
+      waits = test-waits _ _ _ (sym (m .may-wait .ensures) ∙ not-false _ (z .before .before .if5 .left));
+      reserved = sym (z .all-zero .ensures) ∙ not-false _ (a .before .before .if6 .left);
+      entries = sym (rw (add-sub-cancel-left 8) at (a .all-entries .ensures)) ∙ not-false _ (c .before .before .if7 .left);
       rest = e;
     })
 

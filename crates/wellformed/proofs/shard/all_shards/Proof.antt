@@ -6,7 +6,7 @@ use mathlib.Core.Bool.{true}
 use borrow.Author.Tests.{not-true, not-false}
 use Rattle.model.specs.Tests.{allBelow}
 use Rattle.model.specs.WellFormed.{isShard}
-use Rattle.wellformed.proofs.Ranges.{more, fails, reached}
+use Rattle.model.proofs.Ranges.{more, fails, reached}
 use Rattle.wellformed.proofs.shard.all_shards.Statement.{statement}
 use Rattle.wellformed.proofs.shard.all_shards.Tie as tie
 

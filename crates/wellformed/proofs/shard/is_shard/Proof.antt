@@ -62,17 +62,21 @@ all-zero-requires c κs = tt
 
 returns-4 : tie.Need-returns-4
 returns-4 c =
-    some-rest _ _ _ (c .before .before .before .before .before .before .before .before .before .before .pre) (sym (not-true _ (c .if4 .taken)) ∙ (rw add-sub-cancel-left at (c .before .all-zero .ensures)))
+    let z = c .before in
+    let s = z .before .before .before .before .before .before .before .before .before in
+    some-rest _ _ _ (s .pre) (sym (not-true _ (c .if4 .taken)) ∙ (rw add-sub-cancel-left at (z .all-zero .ensures)))
 
 all-configurations-requires : tie.Need-all-configurations-requires
 all-configurations-requires c κs = search needs
 
 returns-5 : tie.Need-returns-5
 returns-5 c =
+    let z = c .before .before in
+    let t = z .before .before in
+    let i = t .before .before .before in
     c .all-configurations .ensures
-    ∙ only-configurations _ _ _ (c .before .before .before .before .before .before .before .before .before .before .before .pre)
-    (sym (not-false _ (c .before .before .before .before .before .before .before .if1 .left)) ∙ c .before .before .before .before .before .before .before .before .is-sequencer .ensures) (c .before .before .before .before .before .if2 .left) (c .before .before .before .before .if3 .left)
-    (sym (not-false _ (c .before .if4 .left)) ∙ (rw add-sub-cancel-left at (c .before .before .all-zero .ensures)))
+    ∙ only-configurations _ _ _ (i .before .before .before .before .pre) (sym (not-false _ (i .if1 .left)) ∙ i .before .is-sequencer .ensures)
+    (t .before .if2 .left) (t .if3 .left) (sym (not-false _ (c .before .if4 .left)) ∙ (rw add-sub-cancel-left at (z .all-zero .ensures)))
 
 pub is-shard-spec : {M : Type 1} → statement M
 is-shard-spec =

@@ -33,7 +33,9 @@ mul-result : tie.Need-mul-result
 mul-result c = record { fits = omega (arith, few (c .before .args .self .members) (c .before .args .host) (c .before .pre .0)) }
 
 add-result : tie.Need-add-result
-add-result c = record { fits = omega (arith, c .before .before .pre .1, few (c .before .before .args .self .members) (c .before .before .args .host) (c .before .before .pre .0)) }
+add-result c =
+    let s = c .before .before in
+    record { fits = omega (arith, s .pre .1, few (s .args .self .members) (s .args .host) (s .pre .0)) }
 
 returns : tie.Need-returns
 unfolding replicaPlace replicaNumber

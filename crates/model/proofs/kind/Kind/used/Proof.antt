@@ -1,82 +1,17 @@
 -- `model::kind::Kind::used` meets its contract.
-use Rattle.model.specs.Kinds.{usedNumbers}
+use mathlib.Core.Path.{ap}
+use Rattle.model.specs.declared.kind.Rules.{Rules}
+use Rattle.model.specs.Rules.{rulesOf}
 use borrow.Author.Needs.{needs}
 use Rattle.model.proofs.kind.Kind.used.Statement.{statement}
 use Rattle.model.proofs.kind.Kind.used.Tie as tie
 
-enum-told : tie.Need-enum-told
-enum-told c = search needs
-
-enum-told-2 : tie.Need-enum-told-2
-enum-told-2 c = search needs
-
-enum-told-3 : tie.Need-enum-told-3
-enum-told-3 c = search needs
-
-enum-told-4 : tie.Need-enum-told-4
-enum-told-4 c = search needs
-
-enum-told-5 : tie.Need-enum-told-5
-enum-told-5 c = search needs
-
-enum-told-6 : tie.Need-enum-told-6
-enum-told-6 c = search needs
-
-enum-told-7 : tie.Need-enum-told-7
-enum-told-7 c = search needs
-
-enum-told-8 : tie.Need-enum-told-8
-enum-told-8 c = search needs
+rules-requires : tie.Need-rules-requires
+rules-requires c κs = search needs
 
 returns : tie.Need-returns
-unfolding usedNumbers
-returns c = rw (c .enum-told .given .1)
-
-returns-2 : tie.Need-returns-2
-unfolding usedNumbers
-returns-2 c = rw (c .enum-told2 .given .1)
-
-returns-3 : tie.Need-returns-3
-unfolding usedNumbers
-returns-3 c = rw (c .enum-told3 .given .1)
-
-returns-4 : tie.Need-returns-4
-unfolding usedNumbers
-returns-4 c = rw (c .enum-told4 .given .1)
-
-returns-5 : tie.Need-returns-5
-unfolding usedNumbers
-returns-5 c = rw (c .enum-told5 .given .1)
-
-returns-6 : tie.Need-returns-6
-unfolding usedNumbers
-returns-6 c = rw (c .enum-told6 .given .1)
-
-returns-7 : tie.Need-returns-7
-unfolding usedNumbers
-returns-7 c = rw (c .enum-told7 .given .1)
-
-returns-8 : tie.Need-returns-8
-unfolding usedNumbers
-returns-8 c = rw (c .enum-told8 .given .1)
+unfolding rulesOf
+returns c = ap (λ (r : Rules). r .used) (c .rules .ensures)
 
 pub used-spec : {M : Type 1} → statement M
-used-spec =
-    tie.close
-    (tie.spec
-    enum-told
-    enum-told-2
-    enum-told-3
-    enum-told-4
-    enum-told-5
-    enum-told-6
-    enum-told-7
-    enum-told-8
-    returns
-    returns-2
-    returns-3
-    returns-4
-    returns-5
-    returns-6
-    returns-7
-    returns-8)
+used-spec = tie.close (tie.spec rules-requires returns)

@@ -1,0 +1,5 @@
+-- Laws that the proofs of these steps share.
+pub mod Copies
+pub mod AdoptSteps
+pub mod InheritSource
+pub mod InheritSteps

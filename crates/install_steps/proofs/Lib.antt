@@ -1,0 +1,6 @@
+-- Laws that the proofs of an install share.
+pub mod NoneNames
+pub mod PendingStores
+pub mod InstallReads
+pub mod InstallStores
+pub mod InstallSteps

@@ -1,0 +1,2 @@
+-- What the functions of this crate require and leave beyond the definitions of `model` and `lookup`.
+pub mod Next

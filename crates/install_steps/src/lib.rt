@@ -1,0 +1,64 @@
+// Kind 5, install: the next configuration of a shard, issued in the history of its sequencer. No entry point: the state is known to be well-formed,
+// and the step's numbers are in range.
+use crate::issues::is_issue_for;
+use crate::issues::none_names;
+use crate::next::install_next;
+use arguments::are_numbers;
+use lookup::Seat;
+use model::entry;
+use model::kind::Kind;
+use model::layout::ENTRIES;
+use model::layout::INSTALLED;
+use model::layout::SHARD_WORDS;
+use model::layout::STABLE;
+ghost use mathlib.Core.Path.{_≡_};
+ghost use Rattle.model.specs.Layout.{sequencer};
+ghost use Rattle.lookup.specs.Ready.{ReadyHost, Placed};
+ghost use Rattle.lookup.specs.Seats.{seatOf};
+ghost use Rattle.lookup.specs.Kinds.{ReadyKind, kindAnswer, kindAfter};
+
+mod issues;
+mod next;
+
+// The replica of a host in configuration j of the sequencer of shard z.
+fn issuer(state: &[u64], z: usize, j: usize, host: u64) -> Seat
+    requires { ⌜ ReadyHost (now state) z j host ⌝ }
+    ensures { λ r. ⌜ (r ≡ seatOf (now (state .entry)) (sequencer (now (state .entry)) z) j host) × Placed (now (state .entry)) (r .place) ⌝ }
+{
+    let y = state[z * SHARD_WORDS] as usize;
+    lookup::find(state, y, j, host)
+}
+
+// Installs what a place of the issuer's history has: 0 and the next configuration pending, or the rejection (10, 11, 20, 21, 22) and the state as it was.
+pub fn install(state: &mut [u64], shards: usize, z: usize, j: usize, host: u64, place: u64) -> u64
+    requires { ⌜ ReadyKind (now state) shards z j ⌝ }
+    ensures { λ r. ⌜ r ≡ kindAnswer (Kind.Install) (now (state .entry)) z j host place ⌝ }
+    ensures { λ _. ⌜ now (state .exit) ≡ kindAfter (Kind.Install) (now (state .entry)) z j host place ⌝ }
+{
+    if !are_numbers(Kind::Install, shards, host, place) {
+        return 7;
+    }
+    let seat = issuer(state, z, j, host);
+    let p = seat.place;
+    if seat.answer != 0 {
+        return seat.answer;
+    }
+    if state[p + STABLE] <= place {
+        return 20;
+    }
+    let from = p + ENTRIES;
+    let at = from + (place as usize);
+    let e = state[at];
+    if !is_issue_for(z, e) {
+        return 20;
+    }
+    let index = entry::issue_index(e);
+    if index != state[z * SHARD_WORDS + INSTALLED] + 1 {
+        return 21;
+    }
+    if !none_names(&state[from..at], z, index) {
+        return 22;
+    }
+    install_next(state, z, entry::issue_members(e), entry::issue_orderer(e));
+    0
+}

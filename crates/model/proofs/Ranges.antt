@@ -1,0 +1,58 @@
+-- Laws of tests that are equal, and of loops that test a range or a list place by place.
+use Prim.Native.Nat.{ℕ, suc, _+_, _≤_, _<_}
+use native.Mathlib.Numerals.{add-one}
+use native.Mathlib.Omega.{arith}
+use mathlib.Core.Path.{_≡_, refl, sym, subst, _∙_}
+use mathlib.Core.Bool.{Bool, true, false, _&&_, false≢true}
+use mathlib.Core.List.{List, [], _∷_}
+use lib.ListN.{length, getD}
+use Rattle.model.specs.Tests.{allBelow, allOf}
+use Rattle.model.proofs.Tests.{both, all-below, below-all}
+use Rattle.model.proofs.WellFormedParts.{all-at}
+
+-- two tests that pass together are one
+pub same-test : (a b : Bool) → (a ≡ true → b ≡ true) → (b ≡ true → a ≡ true) → a ≡ b
+same-test true b f g = sym (f refl)
+same-test false true f g = g refl
+same-test false false f g = refl
+
+-- a test that cannot pass fails
+pub not-passed : (a : Bool) → (a ≡ true → ⊥) → false ≡ a
+not-passed true f = absurd (f refl)
+not-passed false f = refl
+
+-- ---- a range
+
+pub one-more : (i : ℕ) (f : ℕ → Bool) → allBelow (i + 1) f ≡ (allBelow i f && f i)
+unfolding allBelow
+one-more i f = rw add-one
+
+-- a loop's turn that passes, one that fails, and its end
+pub more : (i : ℕ) (f : ℕ → Bool) → true ≡ allBelow i f → true ≡ f i → true ≡ allBelow (i + 1) f
+more i f e d = sym (one-more i f ∙ both (allBelow i f) (f i) .1 (sym e, sym d))
+
+pub fails : (n i : ℕ) (f : ℕ → Bool) → i < n → false ≡ f i → false ≡ allBelow n f
+fails n i f l d = not-passed (allBelow n f) (λ e. false≢true (d ∙ all-below n f e i l))
+
+pub reached : (n i : ℕ) (f : ℕ → Bool) (b : Bool) → i ≤ n → n ≤ i → b ≡ allBelow i f → b ≡ allBelow n f
+reached n i f b l m e = subst (λ (k : ℕ). b ≡ allBelow k f) (omega arith) e
+
+-- two tests that agree below n pass there together
+pub alike : (n : ℕ) (f g : ℕ → Bool) → ((i : ℕ) → i < n → f i ≡ g i) → allBelow n f ≡ allBelow n g
+alike n f g h =
+    same-test (allBelow n f) (allBelow n g) (λ e. below-all n g (λ i l. sym (h i l) ∙ all-below n f e i l))
+    (λ e. below-all n f (λ i l. h i l ∙ all-below n g e i l))
+
+-- ---- a list
+
+below-of : (f : ℕ → Bool) (l : List ℕ) → ((i : ℕ) → i < length l → f (getD l i 0) ≡ true) → allOf f l ≡ true
+unfolding allOf
+below-of f [] h = refl
+below-of f (x ∷ l) h = both (f x) (allOf f l) .1 (h 0 (omega arith), below-of f l (λ i k. h (suc i) (omega arith)))
+
+-- a test of every element is one of every place
+pub of-below : (f : ℕ → Bool) (l : List ℕ) → allOf f l ≡ allBelow (length l) (λ i. f (getD l i 0))
+of-below f l =
+    same-test (allOf f l) (allBelow (length l) (λ i. f (getD l i 0)))
+    (λ e. below-all (length l) (λ i. f (getD l i 0)) (λ i h. all-at f l i e h))
+    (λ e. below-of f l (all-below (length l) (λ i. f (getD l i 0)) e))

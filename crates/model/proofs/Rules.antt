@@ -1,0 +1,114 @@
+-- What the code looks up of a kind, and what that says of its steps.
+use Prim.Native.Nat.{ℕ, zero, suc, _/_, _%_, _^_, _≤_, _<_}
+use native.Mathlib.Omega.{arith}
+use mathlib.Core.Path.{_≡_, refl, ap, sym, _∙_}
+use mathlib.Core.Bool.{Bool, true, false, cond, _&&_, true≢false}
+use lib.Dec.{leb, ltb, eqb, leb·suc-suc}
+use borrow.Author.Tests.{lt-leb, ne-eqb, leb-true, ltb-true}
+use Rattle.model.specs.declared.kind.Kind.{Kind}
+use Rattle.model.specs.declared.kind.Kind.the-variants.{Add, Adopt, Learn, Wedge, Install, Inherit, Kept, Unknown}
+use Rattle.model.specs.declared.kind.Rules.{Rules}
+use Rattle.model.specs.Kinds.{kindOf, isKept, isUnknown, namesHost, usedNumbers}
+use Rattle.model.specs.Rules.{kindRejection, Known, mostFourth, rulesOf, fourthNumbers}
+use Rattle.model.specs.Members.{isHost}
+use Rattle.model.specs.Entries.{isEntry}
+use Rattle.model.specs.Steps.{areNumbers}
+use Rattle.model.proofs.Tests.{both}
+use Rattle.model.proofs.RoundTrip.{kind-below}
+
+-- ---- known kinds
+
+neither : (t u : Bool) → _≡_ {A = ℕ} (cond t 3 (cond u 4 0)) 0 → (t ≡ false) × (u ≡ false)
+neither true u e = absurd (omega arith)
+neither false true e = absurd (omega arith)
+neither false false e = (refl, refl)
+
+-- a kind without a rejection is known
+pub kind-known : (k : Kind) → kindRejection k ≡ 0 → Known k
+unfolding kindRejection
+kind-known k e = let n = neither (isKept k) (isUnknown k) e in record { notKept = n .0; known = n .1 }
+
+-- r is what was looked up of the kind k that the number n names
+module _ (n : ℕ) {k : Kind} (o : k ≡ kindOf n) {r : Rules} (e : r ≡ rulesOf k) where
+  pub rejection-told : r .rejection ≡ kindRejection (kindOf n)
+  unfolding rulesOf
+  rejection-told = ap (λ (x : Rules). x .rejection) e ∙ ap kindRejection o
+
+  pub known-told : r .rejection ≡ 0 → Known (kindOf n)
+  known-told z = kind-known (kindOf n) (sym rejection-told ∙ z)
+
+-- ---- the third and the fourth number
+
+-- a number that is not used is 0
+none-most : (d : ℕ) → eqb d 0 ≡ leb d 0
+none-most zero = refl
+none-most (suc d) = ne-eqb (suc d) 0 (λ e. omega arith) ∙ sym (lt-leb (suc d) 0 (omega arith))
+
+-- they are in range where the third is a host or an entry, and the fourth is not too large
+pub numbers-by-rules : (k : Kind) → Known k → (Z c d : ℕ)
+    → areNumbers k Z c d ≡ (cond (namesHost k) (isHost c) (isEntry Z c) && leb d (mostFourth k))
+unfolding areNumbers namesHost mostFourth isKept isUnknown isHost
+numbers-by-rules Add h Z c d = ap (λ (t : Bool). isEntry Z c && t) (none-most d)
+numbers-by-rules Adopt h Z c d = ap (λ (t : Bool). ltb c 16 && t) (none-most d)
+numbers-by-rules Learn h Z c d = refl
+numbers-by-rules Wedge h Z c d = ap (λ (t : Bool). ltb c 16 && t) (none-most d)
+numbers-by-rules Install h Z c d = refl
+numbers-by-rules Inherit h Z c d = ap (λ (t : Bool). ltb c 16 && t) (leb·suc-suc d 15)
+numbers-by-rules Kept h Z c d = absurd (true≢false (h .notKept))
+numbers-by-rules Unknown h Z c d = absurd (true≢false (h .known))
+
+-- what the test tells where it passes
+pub numbers-tell : (k : Kind) → Known k → (Z c d : ℕ) → areNumbers k Z c d ≡ true
+    → (cond (namesHost k) (isHost c) (isEntry Z c) ≡ true) × (d ≤ mostFourth k)
+numbers-tell k h Z c d e =
+    let t = both (cond (namesHost k) (isHost c) (isEntry Z c)) (leb d (mostFourth k)) .0 (sym (numbers-by-rules k h Z c d) ∙ e) in
+    (t .0, leb-true d (mostFourth k) (t .1))
+
+pub host-told : (k : Kind) → Known k → namesHost k ≡ true → (Z c d : ℕ) → areNumbers k Z c d ≡ true → c < 16
+unfolding isHost
+host-told k h n Z c d e = ltb-true c 16 (rw n at (numbers-tell k h Z c d e .0))
+
+-- ---- how many numbers a kind uses
+
+either-most : (t : Bool) → cond t 1 0 ≤ 1
+either-most true = omega arith
+either-most false = omega arith
+
+-- one fourth number, or none
+pub fourth-most : (n : ℕ) → fourthNumbers n ≤ 1
+unfolding fourthNumbers
+fourth-most n = either-most (leb 4 (usedNumbers (kindOf n)))
+
+used-cases : (k : Kind) → Known k → usedNumbers k ≡ suc (suc (suc (cond (leb 4 (usedNumbers k)) 1 0)))
+unfolding isKept isUnknown usedNumbers
+used-cases Add h = refl
+used-cases Adopt h = refl
+used-cases Learn h = refl
+used-cases Wedge h = refl
+used-cases Install h = refl
+used-cases Inherit h = refl
+used-cases Kept h = absurd (true≢false (h .notKept))
+used-cases Unknown h = absurd (true≢false (h .known))
+
+-- three numbers, and the fourth
+pub used-fourth : (n : ℕ) → Known (kindOf n) → usedNumbers (kindOf n) ≡ suc (suc (suc (fourthNumbers n)))
+unfolding fourthNumbers
+used-fourth n h = used-cases (kindOf n) h
+
+bit : (n : ℕ) → Known (kindOf n) → n < 7 → 104 / 2 ^ n % 2 ≡ fourthNumbers n
+unfolding fourthNumbers kindOf usedNumbers isUnknown
+bit zero h l = absurd (true≢false (h .known))
+bit (suc zero) h l = refl
+bit (suc (suc zero)) h l = refl
+bit (suc (suc (suc zero))) h l = refl
+bit (suc (suc (suc (suc zero)))) h l = refl
+bit (suc (suc (suc (suc (suc zero))))) h l = refl
+bit (suc (suc (suc (suc (suc (suc zero)))))) h l = refl
+bit (suc (suc (suc (suc (suc (suc (suc n))))))) h l = absurd (omega arith)
+
+pub known-below : (n : ℕ) → Known (kindOf n) → n < 7
+known-below n h = kind-below n (h .notKept) (h .known)
+
+-- the bits of 104 are the kinds with a fourth number
+pub fourth-bit : (n : ℕ) → Known (kindOf n) → 104 / 2 ^ n % 2 ≡ fourthNumbers n
+fourth-bit n h = bit n h (known-below n h)

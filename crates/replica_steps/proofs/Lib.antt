@@ -1,0 +1,11 @@
+-- Laws that the proofs of these steps share.
+-- Add
+pub mod Contains
+pub mod AddStores
+pub mod AddSteps
+-- Wedge
+pub mod WedgeSteps
+-- Learn
+pub mod LearnCompared
+pub mod LearnAlike
+pub mod LearnSteps

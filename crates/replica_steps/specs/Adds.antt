@@ -1,0 +1,20 @@
+-- What an add requires: a proper entry, and the orderer of the configuration, which acts.
+use Prim.Native.Nat.{ℕ}
+use mathlib.Core.Path.{_≡_}
+use mathlib.Core.Bool.{true}
+use mathlib.Core.List.{List}
+use lib.ListN.{length}
+use Rattle.model.specs.Entries.{isEntry}
+use Rattle.model.specs.Layout.{shardsOf, orderer}
+use Rattle.lookup.specs.Ready.{Formed}
+use Rattle.lookup.specs.Kinds.{ReadyKind}
+
+-- a well-formed state and a proper entry
+pub record FormedEntry (w : List ℕ) (e : ℕ) : Type 0 where
+  pub state : Formed w
+  pub entry : isEntry (shardsOf (length w)) e ≡ true
+
+-- the orderer o of configuration j of a shard z
+pub record ReadyAdd (w : List ℕ) (shards z j o : ℕ) : Type 0 where
+  pub kind : ReadyKind w shards z j
+  pub ordered : o ≡ orderer w z j

@@ -1,0 +1,2 @@
+-- What the functions inside setup require.
+pub mod Planned
