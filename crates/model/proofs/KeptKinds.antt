@@ -3,7 +3,7 @@
 use Prim.Native.Nat.{ℕ, suc, _-_, _≤_, _<_}
 use native.Mathlib.Omega.{arith}
 use mathlib.Core.Path.{_≡_, refl, sym, ap, subst}
-use mathlib.Core.Bool.{Bool, true, false, not, _&&_}
+use mathlib.Core.Bool.{Bool, true, false, not}
 use mathlib.Core.List.{List, [], _∷_}
 use lib.Dec.{ltb}
 use borrow.Author.Tests.{ltb-true, eqb-true, eqb-false, not-true}
@@ -22,7 +22,7 @@ use Rattle.model.specs.Inherit.{source, isSource, inheritChecks, inherit
 use Rattle.model.specs.WellFormed.{isPart}
 use Rattle.model.specs.Prefixes.{Begins}
 use Rattle.model.specs.OneList.{shards}
-use Rattle.model.proofs.Tests.{both}
+use Rattle.model.proofs.Tests.{and-left, and-right}
 use Rattle.model.proofs.Members.{number-below}
 use Rattle.model.proofs.Checks.{AllPass}
 use Rattle.model.proofs.Parts.{short}
@@ -193,13 +193,13 @@ module _ {w : List ℕ} {offers : ℕ → List ℕ} (x : Safe w offers) {z j : �
   kept-inherit h g p =
       let member : hasMember (members w z j) h ≡ true = search in
       let waits : isPending (replicaOf w (configuration w z j) h) ≡ true = search in
-      let from : (hasMember (members w z (j - 1)) g && isImmutable (replicaOf w (configuration w z (j - 1)) g)) ≡ true = search in
-      let parts = both (hasMember (members w z (j - 1)) g) (isImmutable (replicaOf w (configuration w z (j - 1)) g)) .0 from in
+      let there : hasMember (members w z (j - 1)) g ≡ true = search (and-left, and-right) in
+      let wedged : isImmutable (replicaOf w (configuration w z (j - 1)) g) ≡ true = search (and-left, and-right) in
       let later : 1 ≤ j = member-proper (formed x) hz hj h member .waits waits .1 in
       let next : suc (j - 1) ≡ j = omega arith in
       let before : j - 1 < 8 = omega arith in
-      let few = number-small (formed x) hz before g (parts .0) in
-      let old = member-view (formed x) hz before g (parts .0) in
+      let few = number-small (formed x) hz before g there in
+      let old = member-view (formed x) hz before g there in
       rw old
       (at-member h member (inherited (view w z (j - 1) (replicaNumber (members w z (j - 1)) g)))
       (view-short (j - 1) (replicaNumber (members w z (j - 1)) g) before few)
@@ -207,4 +207,4 @@ module _ {w : List ℕ} {offers : ℕ → List ℕ} (x : Safe w offers) {z j : �
       (subst (λ (q : ℕ). Move (view w z) (offers z) q (number h) (inherited (view w z (j - 1) (replicaNumber (members w z (j - 1)) g)))) next
       (inherit-move (x .inv z hz) (j - 1) (number h) (replicaNumber (members w z (j - 1)) g)
       (subst (λ (q : ℕ). view w z q (number h) .mode ≡ 1) (sym next) (pending-mode _ (rw (shown h member) at waits)))
-      (immutable-mode _ (rw old at (parts .1))))))
+      (immutable-mode _ (rw old at wedged)))))

@@ -14,6 +14,13 @@ pub both : (a b : Bool) → (a && b ≡ true) ↔ ((a ≡ true) × (b ≡ true))
 both true b = (λ e. (refl, e), λ k. k .1)
 both false b = (λ e. absurd (false≢true e), λ k. k .0)
 
+-- .. for `search`, which takes one test out of a conjunction wherever it stands there
+pub and-left : (a b : Bool) → a && b ≡ true → a ≡ true
+and-left a b e = both a b .0 e .0
+
+pub and-right : (a b : Bool) → a && b ≡ true → b ≡ true
+and-right a b e = both a b .0 e .1
+
 -- the conjunction a && b && .. of several tests, and that each of them passes
 abbrev pub conjunction : Bool → List Bool → Bool
 conjunction a [] = a

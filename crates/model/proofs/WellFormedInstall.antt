@@ -13,7 +13,7 @@ use Rattle.model.specs.Replicas.{pending}
 use Rattle.model.specs.Layout.{shardsOf, place, sequencer, installed, isInstalled, members, orderer, part}
 use Rattle.model.specs.WellFormed.{isPart, isSequencer, isHeadOf}
 use Rattle.model.specs.Install.{issuer, issuedAt, isStableIssue, installChecks, installNext, installEffect}
-use Rattle.model.proofs.Tests.{both}
+use Rattle.model.proofs.Tests.{both, and-left, and-right}
 use Rattle.model.proofs.Checks.{AllPass}
 use Rattle.model.proofs.Entries.{ProperIssue, proper-issue}
 use Rattle.model.proofs.InstallNext.{next-length, next-other, next-installed, next-members, next-orderer, next-pending, next-parts}
@@ -166,10 +166,10 @@ module _ {Z : ℕ} {w : List ℕ} (f : WellFormed Z w) {z j : ℕ} (hz : z < Z) 
   pub stable-issue : (p < issuer w z j h .stable) × (isIssue (issuedAt w z j h p) ≡ true) × (issueShard (issuedAt w z j h p) ≡ z)
   unfolding installChecks isStableIssue isIssueFor
   stable-issue =
-      let e = issuedAt w z j h p in
-      let t = both (ltb p (issuer w z j h .stable)) (isIssueFor z e) .0 (search) in
-      let i = both (isIssue e) (eqb (issueShard e) z) .0 (t .1) in
-      (ltb-true p (issuer w z j h .stable) (t .0), i .0, eqb-true (issueShard e) z (i .1))
+      let stable : ltb p (issuer w z j h .stable) ≡ true = search (and-left, and-right) in
+      let issues : isIssue (issuedAt w z j h p) ≡ true = search (and-left, and-right) in
+      let named : eqb (issueShard (issuedAt w z j h p)) z ≡ true = search (and-left, and-right) in
+      (ltb-true p (issuer w z j h .stable) stable, issues, eqb-true (issueShard (issuedAt w z j h p)) z named)
 
   pub issue-proper : ProperIssue Z (issuedAt w z j h p)
   unfolding issuedAt

@@ -8,7 +8,7 @@ use lib.ListN.{length}
 use borrow.Author.Tests.{ltb-true}
 use Rattle.model.specs.Members.{hasMember, replicaNumber}
 use Rattle.model.specs.Entries.{isEntry}
-use Rattle.model.specs.Replicas.{Replica, isImmutable, added, adopted, learned, wedged, inherited}
+use Rattle.model.specs.Replicas.{Replica, added, adopted, learned, wedged, inherited}
 use Rattle.model.specs.Layout.{place, members, orderer, isInstalled, replicaAt, putReplica}
 use Rattle.model.specs.Configuration.{configuration, replicaPlace, replicaOf}
 use Rattle.model.specs.Add.{ordererPlace, ordererReplica, addChecks, addEffect}
@@ -16,7 +16,7 @@ use Rattle.model.specs.Adopt.{adoptChecks, adoptEffect}
 use Rattle.model.specs.Learn.{allAlike, learnChecks, learnEffect}
 use Rattle.model.specs.Wedge.{wedgeChecks, wedgeEffect}
 use Rattle.model.specs.Inherit.{source, isSource, inheritChecks, inheritEffect}
-use Rattle.model.proofs.Tests.{both}
+use Rattle.model.proofs.Tests.{and-left, and-right}
 use Rattle.model.proofs.Alike.{every-alike, alike-long}
 use Rattle.model.proofs.Places.{replica-place}
 use Rattle.model.proofs.Members.{number-below}
@@ -78,6 +78,6 @@ module _ {Z : ℕ} {w : List ℕ} (f : WellFormed Z w) {z j : ℕ} (hz : z < Z) 
   unfolding inheritChecks inheritEffect isSource source
   inherit-keeps h g p =
       let e : hasMember (members w z j) h ≡ true = search in
-      let s = both (hasMember (members w z (j - 1)) g) (isImmutable (source w z j g)) .0 (search) in
+      let s : hasMember (members w z (j - 1)) g ≡ true = search (and-left, and-right) in
       put-member h e (inherited (source w z j g))
-      (inherited-proper (member-proper f hz (omega arith) g (s .0)) j)
+      (inherited-proper (member-proper f hz (omega arith) g s) j)

@@ -135,9 +135,9 @@ pub record Effects : Type 0 where
   pub inherits : Leaves (replaced ++ goneOn)
       (heads ++ ((2432, 2 ∷ 2 ∷ 1 ∷ []) ∷ (2440, 12 ∷ 13 ∷ []) ∷ (2496, 2 ∷ 2 ∷ 2 ∷ []) ∷ (2504, 12 ∷ 13 ∷ []) ∷ []))
 
--- "Setup: 1, 2."
+-- "Setup: 1, 2.": no state has this length, and no plan this
 abbrev pub SetupOrder : Type 0
-SetupOrder = setupRejection tooShort [] ≡ 1
+SetupOrder = setupRejection tooShort (0 ∷ []) ≡ 1
 
 -- "A step: 1, 3, 4, 7, 9, then .."
 pub record StepOrder : Type 0 where
