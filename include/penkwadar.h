@@ -180,6 +180,18 @@ uint64_t penkwadar_stable_prefix(const uint64_t *state, size_t state_len, uint64
 uint64_t penkwadar_stable_history(const uint64_t *state, size_t state_len, uint64_t zone, uint64_t *out, size_t out_len,
                                   uint64_t *count, size_t count_len);
 
+/* ---- The text for spreadsheets ----
+ *
+ * Comma-separated text by RFC 4180: the header row `zone,place,kind,entry`, and a row for each entry of each zone's
+ * stable history, by zone and then place. A place counts from 0; the kind is `take` or `issue`. No field has quotes or
+ * needs them, and every row, the header and the last one too, ends in carriage return and line feed. */
+#define PENKWADAR_CSV_BYTES 10247 /* no text is longer; with fewer zones, none is longer than 23 + 1,278 x Z */
+
+/* Writes the text of a state; the first word of count becomes its length in bytes, at most PENKWADAR_CSV_BYTES.
+ * Rejections: 8 (count_len below 1), then 1, 9, and 8 (out is too short for the text). */
+uint64_t penkwadar_csv(const uint64_t *state, size_t state_len, uint8_t *out, size_t out_len, uint64_t *count,
+                       size_t count_len);
+
 /* ---- The program's text ----
  *
  * It has a state and a plan of its own: zone 0 has sequencer 1, boxes 0 and 1, orderer 0; zone 1 has sequencer 0,

@@ -1,4 +1,4 @@
-/* The proved machine called from C: two zones, a take that becomes stable, a log, a transcript, rejections.
+/* The proved machine called from C: two zones, a take that becomes stable, a log, the texts, rejections.
  *
  *     cc -Wall -Wextra -Werror -I include tests/c/main.c include/libpenkwadar.a
  *
@@ -200,6 +200,26 @@ static void check_reconfiguration(void)
     CHECK(step(INSTALL, 1, 1, 1, 1) == PENKWADAR_NOT_NEXT_INDEX && state_unchanged());
 }
 
+/* The stable histories as rows: of zone 0 the take and the issue, of zone 1 none. */
+static void check_csv(void)
+{
+    static const char text[] = "zone,place,kind,entry\r\n0,0,take,7\r\n0,1,issue,4329766952\r\n";
+    const size_t length = sizeof text - 1;
+    uint8_t out[PENKWADAR_CSV_BYTES];
+    uint64_t count[2] = {UNWRITTEN, UNWRITTEN};
+    memset(out, 0xee, sizeof out);
+    CHECK(penkwadar_csv(state, WORDS, out, sizeof out, count, 0) == PENKWADAR_OUTPUT_SHORT);
+    CHECK(penkwadar_csv(state, WORDS - 1, out, sizeof out, count, 1) == PENKWADAR_STATE_LENGTH);
+    CHECK(penkwadar_csv(state, WORDS, out, length - 1, count, 1) == PENKWADAR_OUTPUT_SHORT);
+    state[1] = 9;
+    CHECK(penkwadar_csv(state, WORDS, out, 0, count, 1) == PENKWADAR_NOT_WELL_FORMED);
+    state[1] = 1;
+    CHECK(all_bytes(out, sizeof out, 0xee) && all_words(count, 2, UNWRITTEN));
+    CHECK(penkwadar_csv(state, WORDS, out, length, count, 2) == 0);
+    CHECK(count[0] == length && count[1] == UNWRITTEN && memcmp(out, text, length) == 0);
+    CHECK(all_bytes(out + length, sizeof out - length, 0xee));
+}
+
 static void check_wedge(void)
 {
     CHECK(step(WEDGE, 0, 1, 0, 0) == 0);
@@ -307,6 +327,7 @@ int main(void)
     check_stable_history();
     check_stable_prefix();
     check_reconfiguration();
+    check_csv();
     check_wedge();
     check_read();
     check_write();

@@ -6,3 +6,4 @@ pub mod Words
 pub mod Steps
 pub mod Lists
 pub mod Transcripts
+pub mod Spreadsheets

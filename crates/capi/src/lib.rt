@@ -2,6 +2,7 @@
 
 mod lists;
 mod replays;
+mod spreadsheets;
 mod state;
 mod steps;
 mod transcripts;

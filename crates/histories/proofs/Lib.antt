@@ -5,6 +5,7 @@ pub mod Picking
 pub mod Copying
 pub mod Listings
 pub mod Histories
+pub mod HistorySizes
 pub mod Seats
 pub mod Prefixes
 pub mod Shown

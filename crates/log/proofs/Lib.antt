@@ -8,5 +8,4 @@ pub mod Writes
 pub mod StepParts
 pub mod ShortSteps
 pub mod StepBytes
-pub mod Progress
 pub mod Rejections

@@ -10,6 +10,7 @@ pub mod Places
 pub mod Lengths
 pub mod Heads
 pub mod Alike
+pub mod Progress
 -- Well-formed states
 pub mod Entries
 pub mod WellFormedParts

@@ -1,10 +1,7 @@
 -- Laws of the text.
--- Numbers
-pub mod Decimal
-pub mod Digits
 -- Bytes and words
 pub mod StopTexts
-pub mod Stores
+pub mod Spaced
 -- The lines
 pub mod ShardText
 pub mod RunLines
@@ -12,7 +9,6 @@ pub mod RunLines
 pub mod StepSizes
 pub mod LogSizes
 pub mod StepAnswers
-pub mod HistorySizes
 pub mod ReplayedState
 pub mod LineSizes
 pub mod LargestText

@@ -19,10 +19,10 @@ use Rattle.model.specs.Transcript.{decimal, spaced, spacedAll, stepLines, shard
 use Rattle.model.proofs.AllOf.{all-head, all-tail}
 use Rattle.model.proofs.Lengths.{length-of-shards}
 use Rattle.model.proofs.WellFormed.{WellFormed}
-use Rattle.transcript.proofs.Decimal.{decimal-width}
+use Rattle.text_parts.proofs.Decimal.{decimal-width}
 use Rattle.transcript.proofs.LogSizes.{KnownKinds, LogStop}
 use Rattle.transcript.proofs.StepAnswers.{rejection-most}
-use Rattle.transcript.proofs.HistorySizes.{FewEntries, entry-below, stable-few}
+use Rattle.histories.proofs.HistorySizes.{FewEntries, entry-below, stable-few}
 
 -- a space and a number below 10 ^ (k + 1)
 pub spaced-width : (k n : ℕ) → n < 10 ^ suc k → length (spaced n) ≤ k + 2

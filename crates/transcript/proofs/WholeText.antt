@@ -17,7 +17,7 @@ use Rattle.model.proofs.ProgramStart.{start-left, start-formed}
 use Rattle.lookup.specs.Ready.{Formed}
 use Rattle.replay.specs.Run.{reported, runReport, afterRun}
 use Rattle.lookup.proofs.Formed.{formed-of}
-use Rattle.log.proofs.Progress.{Progress, progress-first, progress-room, progress-next}
+use Rattle.model.proofs.Progress.{Progress, progress-first, progress-room, progress-next}
 use Rattle.transcript.specs.declared.steps.Printed.{Printed}
 use Rattle.histories.specs.History.{OfShard}
 use Rattle.transcript.specs.Text.{runLines, printed, RunRoom}

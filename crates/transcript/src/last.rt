@@ -1,9 +1,9 @@
 // The last line of the text.
-use crate::bytes::write_bytes;
 use crate::number::write_newline;
 use crate::number::write_spaced;
 use crate::number::write_word;
 use model::Stop;
+use text_parts::bytes::write_bytes;
 ghost use mathlib.Core.Path.{_≡_};
 ghost use Prim.Native.Nat.{_+_, _≤_};
 ghost use lib.ListN.{length};

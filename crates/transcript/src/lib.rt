@@ -1,5 +1,6 @@
 // The program's whole text for a log, written into a borrowed output. What it says is in `model`: `Transcript`.
 use model::Writing;
+use text_parts::bytes::write_bytes;
 ghost use mathlib.Core.Path.{_≡_};
 ghost use Prim.Native.Nat.{_≤_};
 ghost use lib.ListN.{length as count, take};
@@ -7,7 +8,6 @@ ghost use Rattle.model.specs.Transcript.{transcript};
 ghost use Rattle.model.specs.Results.{writingNumber, writingCount};
 ghost use Rattle.transcript.specs.Text.{textRejection, textCount, textWriting, afterText};
 
-mod bytes;
 mod last;
 mod number;
 mod shards;
@@ -38,6 +38,6 @@ fn deliver(out: &mut [u8], space: &[u8], length: usize) -> Writing
     if out.len() < length {
         return Writing::Rejected(8);
     }
-    bytes::write_bytes(out, 0, &space[..length]);
+    write_bytes(out, 0, &space[..length]);
     Writing::Bytes(length)
 }

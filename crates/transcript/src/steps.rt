@@ -1,9 +1,9 @@
 // The lines of the steps: each step of the log is read, tried and printed.
 use crate::number::write_newline;
-use crate::number::write_number;
 use crate::number::write_spaced;
 use model::Reading;
 use model::Stop;
+use text_parts::number::write_number;
 ghost use mathlib.Core.Path.{_≡_};
 ghost use Prim.Native.Nat.{_+_, _≤_};
 ghost use lib.ListN.{length};

@@ -75,6 +75,17 @@ impl<'a> View<'a> {
         (1..=self.installed(shard)).flat_map(move |index| self.replicas(shard, index))
     }
 
+    /// The longest stable prefix of a shard; the first of equally long ones.
+    pub fn longest_stable(self, shard: u64) -> &'a [u64] {
+        let mut longest: &[u64] = &[];
+        for replica in self.all_replicas(shard) {
+            if replica.stable().len() > longest.len() {
+                longest = replica.stable();
+            }
+        }
+        longest
+    }
+
     pub fn replica(self, shard: u64, index: u64, host: u64) -> Option<Replica<'a>> {
         if !(1..=self.installed(shard)).contains(&index) {
             return None;

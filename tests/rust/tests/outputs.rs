@@ -6,36 +6,12 @@ use penkwadar_tests::testing::both;
 use penkwadar_tests::testing::logs::{push_step, spoil};
 use penkwadar_tests::testing::random::Random;
 use penkwadar_tests::testing::settings;
-use penkwadar_tests::testing::states::well_formed;
+use penkwadar_tests::testing::states::{spoil_state, well_formed};
 use penkwadar_tests::testing::steps::{any_step, odd_number};
 use penkwadar_tests::testing::temper::Temper;
 use penkwadar_tests::testing::twin::Twin;
 use penkwadar_tests::view::{SHARD_WORDS, View};
 use penkwadar_tests::{plain, testing::logs};
-
-/// The longest stable prefix; the first of equally long ones.
-fn longest(words: &[u64], shard: u64) -> &[u64] {
-    let mut longest: &[u64] = &[];
-    for replica in View::new(words).all_replicas(shard) {
-        if replica.stable().len() > longest.len() {
-            longest = replica.stable();
-        }
-    }
-    longest
-}
-
-/// Puts a state out of form now and then, and says whether it did; now and then takes a word away.
-fn spoil_state(random: &mut Random, words: &mut Vec<u64>) -> bool {
-    let out_of_form = random.chance(15);
-    if out_of_form {
-        let place = random.place(words.len());
-        words[place] = u64::MAX;
-    }
-    if random.chance(10) {
-        words.pop();
-    }
-    out_of_form
-}
 
 #[test]
 fn stable_histories() {
@@ -49,7 +25,7 @@ fn stable_histories() {
             _ => random.below(shards),
         };
         let expected = match shard < shards {
-            true => longest(&words, shard).to_vec(),
+            true => View::new(&words).longest_stable(shard).to_vec(),
             false => Vec::new(),
         };
         let (out_len, count_len) = (random.place(60), random.weighted(&[5, 90, 5]));

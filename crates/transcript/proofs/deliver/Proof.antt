@@ -1,6 +1,6 @@
 -- `transcript::deliver` meets its contract.
 use lib.ListN.{take}
-use Rattle.transcript.proofs.Stores.{sets-kept}
+use Rattle.text_parts.proofs.Stores.{sets-kept}
 use Rattle.transcript.proofs.Delivery.{long, too-short, room, delivered}
 use mathlib.Core.Path.{sym}
 use Rattle.transcript.proofs.deliver.Statement.{statement}

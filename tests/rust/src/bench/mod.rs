@@ -3,6 +3,7 @@
 mod check;
 mod clock;
 mod codec;
+mod csv;
 mod replays;
 mod single;
 mod states;
@@ -14,12 +15,13 @@ use table::Table;
 /// A part of the benchmark: its name, and what measures it.
 type Part = (&'static str, fn() -> Vec<Table>);
 
-const PARTS: [Part; 5] = [
+const PARTS: [Part; 6] = [
     ("check", check::tables),
     ("steps", single::tables),
     ("codec", codec::tables),
     ("replays", replays::tables),
     ("transcripts", transcripts::tables),
+    ("csv", csv::tables),
 ];
 
 /// Measures the named parts, or all where none is named, and prints Markdown.

@@ -1,10 +1,11 @@
-//! Document 01 in plain Rust: the implementation that the proved one is compared with and measured against.
+//! Documents 01 and 02 in plain Rust: the implementation that the proved one is compared with and measured against.
 //!
 //! Nothing here allocates, and nothing panics for any input.
 
 mod add;
 mod adopt;
 mod configuration;
+mod csv;
 mod entry;
 mod inherit;
 mod install;
@@ -25,6 +26,7 @@ mod wedge;
 mod wellformed;
 mod writer;
 
+pub use csv::csv;
 pub use layout::{HISTORY, SHARD_WORDS, state_words};
 pub use reader::read_step;
 pub use replay::replay;

@@ -73,6 +73,14 @@ mod c {
             count: *mut u64,
             count_len: usize,
         ) -> u64;
+        pub fn penkwadar_csv(
+            state: *const u64,
+            state_len: usize,
+            out: *mut u8,
+            out_len: usize,
+            count: *mut u64,
+            count_len: usize,
+        ) -> u64;
         pub fn penkwadar_transcript(
             log: *const u8,
             log_len: usize,
@@ -185,6 +193,23 @@ pub fn stable_prefix(
             shard,
             index,
             host,
+            out.as_mut_ptr(),
+            out.len(),
+            count.as_mut_ptr(),
+            count.len(),
+        )
+    }
+}
+
+/// Writes every shard's stable history as text for spreadsheets; the first word of `count` becomes its length.
+#[inline]
+pub fn csv(state: &[u64], out: &mut [u8], count: &mut [u64]) -> u64 {
+    // SAFETY: pointers and lengths are those of slices; outputs are borrowed mutably, so none overlap, and the
+    // header promises that `state` is only read.
+    unsafe {
+        c::penkwadar_csv(
+            state.as_ptr(),
+            state.len(),
             out.as_mut_ptr(),
             out.len(),
             count.as_mut_ptr(),

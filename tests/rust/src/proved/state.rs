@@ -76,6 +76,21 @@ impl<W: AsRef<[u64]>> State<W> {
         result(ffi::stable_prefix(self.words(), seat, out, &mut count))?;
         Ok(count[0] as usize)
     }
+
+    /// Every shard's stable history as text for spreadsheets (RFC 4180).
+    pub fn csv(&self) -> Result<Vec<u8>, Rejection> {
+        let mut out = vec![0; CSV_BYTES];
+        let length = self.csv_into(&mut out)?;
+        out.truncate(length);
+        Ok(out)
+    }
+
+    /// Writes that text to the start of `out` and gives its length.
+    pub fn csv_into(&self, out: &mut [u8]) -> Result<usize, Rejection> {
+        let mut count = [0];
+        result(ffi::csv(self.words(), out, &mut count))?;
+        Ok(count[0] as usize)
+    }
 }
 
 impl<W: AsRef<[u64]> + AsMut<[u64]>> State<W> {
@@ -103,6 +118,9 @@ impl<W: AsRef<[u64]> + AsMut<[u64]>> State<W> {
         replayed(answer, report)
     }
 }
+
+/// No text for spreadsheets is longer.
+pub const CSV_BYTES: usize = 10_247;
 
 /// Entries that a history holds at most.
 const HISTORY: usize = 56;

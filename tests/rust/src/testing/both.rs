@@ -159,6 +159,21 @@ pub fn stable_prefix(
     answer
 }
 
+/// The length of the text for spreadsheets, or the rejection. The state is compared as well: it is only read.
+pub fn csv(state: &mut Twin<u64>, out: &mut Twin<u8>, count_len: usize) -> Result<usize, u64> {
+    let call = ("csv", out.get().len(), count_len);
+    let (plain, proved) = state.both();
+    let answer = counted(
+        out,
+        count_len,
+        &call,
+        |out, count| Plain::csv(plain, out, count),
+        |out, count| Proved::csv(proved, out, count),
+    );
+    state.settle(true, &call);
+    answer
+}
+
 /// The length of the text, or the rejection.
 pub fn transcript(log: &[u8], out: &mut Twin<u8>, count_len: usize) -> Result<usize, u64> {
     let call = ("transcript", log.len(), out.get().len(), count_len);

@@ -69,3 +69,16 @@ pub fn entry(random: &mut Random, shards: u64) -> u64 {
         }
     }
 }
+
+/// Puts a state out of form now and then, and says whether it did; now and then takes a word away.
+pub fn spoil_state(random: &mut Random, words: &mut Vec<u64>) -> bool {
+    let out_of_form = random.chance(15);
+    if out_of_form {
+        let place = random.place(words.len());
+        words[place] = u64::MAX;
+    }
+    if random.chance(10) {
+        words.pop();
+    }
+    out_of_form
+}

@@ -1,4 +1,5 @@
-//! The vectors of the repository: single steps, and logs with the text that the program prints.
+//! The vectors of the repository: single steps, logs with the text that the program prints, and calls with what they
+//! answer and write.
 
 use std::fs;
 use std::path::{Path, PathBuf};
@@ -21,6 +22,17 @@ pub struct ProgramVector {
     pub output: Vec<u8>,
 }
 
+/// One call for a state's text for spreadsheets, and what is expected.
+pub struct CsvVector {
+    pub words: Vec<u64>,
+    pub out_len: usize,
+    pub count_len: usize,
+    pub answer: u64,
+    /// What is written at the start of the output, and of the count.
+    pub text: Vec<u8>,
+    pub count: Vec<u64>,
+}
+
 /// The single steps that `crates/step_vectors` runs in the gate too.
 pub fn step_vectors() -> Vec<StepVector> {
     let mut numbers = Numbers { bytes: read(&root().join("crates/step_vectors/stdin")), at: 0 };
@@ -38,6 +50,13 @@ pub fn program_vectors() -> Vec<ProgramVector> {
         .collect();
     inputs.sort();
     inputs.into_iter().map(program_vector).collect()
+}
+
+/// The calls of `tests/vectors/csv/csv.txt`, one a line; `tests/vectors/README.md` has the format.
+pub fn csv_vectors() -> Vec<CsvVector> {
+    let bytes = read(&root().join("tests/vectors/csv/csv.txt"));
+    let text = String::from_utf8(bytes).expect("text");
+    text.lines().map(|line| csv_vector(&mut Tokens(line.split(' ')))).collect()
 }
 
 /// FNV-1a of 64 bits over words, each as eight bytes, lowest first.
@@ -101,4 +120,53 @@ fn step_vector(numbers: &mut Numbers) -> StepVector {
         words[place] = numbers.next();
     }
     StepVector { words, step, answer, check }
+}
+
+/// The words of a line.
+struct Tokens<'a>(std::str::Split<'a, char>);
+
+impl<'a> Tokens<'a> {
+    fn next(&mut self) -> &'a str {
+        self.0.next().expect("one more word in the line")
+    }
+
+    fn expect(&mut self, word: &str) {
+        assert_eq!(self.next(), word);
+    }
+
+    fn number(&mut self) -> u64 {
+        self.next().parse().expect("a number")
+    }
+
+    /// How many, then those numbers.
+    fn words(&mut self) -> Vec<u64> {
+        (0..self.number()).map(|_| self.number()).collect()
+    }
+
+    /// A state: its length, then places and values of the words that are not 0.
+    fn state(&mut self) -> Vec<u64> {
+        let mut words = vec![0; self.number() as usize];
+        for _ in 0..self.number() {
+            let place = self.number() as usize;
+            words[place] = self.number();
+        }
+        words
+    }
+
+    /// The letter x and two hexadecimal digits for each byte.
+    fn bytes(&mut self) -> Vec<u8> {
+        let digits = self.next().strip_prefix('x').expect("bytes").as_bytes();
+        let pairs = digits.chunks(2).map(|pair| std::str::from_utf8(pair).expect("digits"));
+        pairs.map(|pair| u8::from_str_radix(pair, 16).expect("a byte")).collect()
+    }
+}
+
+fn csv_vector(tokens: &mut Tokens) -> CsvVector {
+    tokens.expect("csv");
+    let words = tokens.state();
+    let (out_len, count_len) = (tokens.number() as usize, tokens.number() as usize);
+    tokens.expect("=");
+    let (answer, text, count) = (tokens.number(), tokens.bytes(), tokens.words());
+    assert!(tokens.0.next().is_none(), "more words in the line");
+    CsvVector { words, out_len, count_len, answer, text, count }
 }

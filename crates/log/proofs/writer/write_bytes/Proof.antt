@@ -7,7 +7,7 @@ use borrow.Author.Tests.{le-leb, lt-leb}
 use borrow.Author.Needs.{needs}
 use Rattle.model.specs.Numbers.{numberBytes}
 use Rattle.log.specs.Writer.{bytesOf}
-use Rattle.log.proofs.Progress.{Progress, progress-first, progress-next, progress-room, progress-last, progress-end}
+use Rattle.model.proofs.Progress.{Progress, progress-first, progress-next, progress-room, progress-last, progress-end}
 use Rattle.log.proofs.writer.write_bytes.Statement.{statement}
 use Rattle.log.proofs.writer.write_bytes.Tie as tie
 

@@ -3,7 +3,7 @@ use Prim.Native.Nat.{ℕ}
 use mathlib.Core.List.{List, [], _++_}
 use Rattle.model.specs.Transcript.{spaced, newline, stopText, lastLine}
 use Rattle.replay.specs.Run.{reported}
-use Rattle.log.proofs.Progress.{Progress, progress-first, progress-next, progress-room, progress-last, progress-end}
+use Rattle.model.proofs.Progress.{Progress, progress-first, progress-next, progress-room, progress-last, progress-end}
 use Rattle.transcript.proofs.last.write_last.Statement.{statement}
 use Rattle.transcript.proofs.last.write_last.Tie as tie
 

@@ -3,7 +3,8 @@ use native.Mathlib.Omega.{arith}
 use mathlib.Core.Path.{_∙_}
 use lib.ListN.{length-set}
 use Rattle.model.specs.Transcript.{spaced}
-use Rattle.transcript.proofs.Stores.{sets-kept, spaced-length, spaced-stores}
+use Rattle.text_parts.proofs.Stores.{sets-kept}
+use Rattle.transcript.proofs.Spaced.{spaced-length, spaced-stores}
 use Rattle.transcript.proofs.number.write_spaced.Statement.{statement}
 use Rattle.transcript.proofs.number.write_spaced.Tie as tie
 

@@ -2,7 +2,7 @@
 use Prim.Native.Nat.{ℕ}
 use mathlib.Core.List.{List, [], _++_}
 use Rattle.model.specs.Transcript.{spaced}
-use Rattle.log.proofs.Progress.{Progress, progress-first, progress-next, progress-room, progress-last, progress-end}
+use Rattle.model.proofs.Progress.{Progress, progress-first, progress-next, progress-room, progress-last, progress-end}
 use Rattle.transcript.proofs.number.write_word.Statement.{statement}
 use Rattle.transcript.proofs.number.write_word.Tie as tie
 

@@ -2,7 +2,7 @@
 use Rattle.model.specs.Transcript.{spacedAll}
 use Rattle.histories.specs.Entries.{entriesAt}
 use Rattle.histories.proofs.Stable.{entries-part}
-use Rattle.transcript.proofs.Stores.{sets-kept}
+use Rattle.text_parts.proofs.Stores.{sets-kept}
 use borrow.Author.Needs.{needs}
 use Rattle.transcript.proofs.shards.write_entries.Statement.{statement}
 use Rattle.transcript.proofs.shards.write_entries.Tie as tie

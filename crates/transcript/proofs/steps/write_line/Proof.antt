@@ -3,7 +3,7 @@ use Prim.Native.Nat.{ℕ}
 use mathlib.Core.List.{List, [], _++_}
 use Rattle.model.specs.Transcript.{decimal, spaced, newline}
 use Rattle.transcript.specs.Text.{stepLine}
-use Rattle.log.proofs.Progress.{Progress, progress-first, progress-next, progress-room, progress-last, progress-end}
+use Rattle.model.proofs.Progress.{Progress, progress-first, progress-next, progress-room, progress-last, progress-end}
 use Rattle.transcript.proofs.steps.write_line.Statement.{statement}
 use Rattle.transcript.proofs.steps.write_line.Tie as tie
 

@@ -8,7 +8,7 @@ use lib.ListN.{length, replicate, length-replicate}
 use Rattle.model.specs.Transcript.{programPlan, programStart, shardLine, lastLine, lines}
 use Rattle.replay.specs.Run.{reported}
 use Rattle.histories.specs.History.{OfShard}
-use Rattle.log.proofs.Progress.{Progress, progress-next, progress-room, progress-last, progress-end}
+use Rattle.model.proofs.Progress.{Progress, progress-next, progress-room, progress-last, progress-end}
 use Rattle.transcript.proofs.WholeText.{begun, run-room, run-written, of-shard}
 use borrow.Author.Needs.{needs}
 use Rattle.transcript.proofs.text.write_lines.Statement.{statement}

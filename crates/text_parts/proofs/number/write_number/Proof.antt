@@ -1,10 +1,10 @@
--- `transcript::number::write_number` meets its contract.
+-- `text_parts::number::write_number` meets its contract.
 use native.Mathlib.Omega.{arith}
 use borrow.Author.Needs.{needs}
 use lib.ListN.{length-set}
-use Rattle.transcript.proofs.Digits.{Writes, write-start, write-least, write-more, write-room, write-end}
-use Rattle.transcript.proofs.number.write_number.Statement.{statement}
-use Rattle.transcript.proofs.number.write_number.Tie as tie
+use Rattle.text_parts.proofs.Digits.{Writes, write-start, write-least, write-more, write-room, write-end}
+use Rattle.text_parts.proofs.number.write_number.Statement.{statement}
+use Rattle.text_parts.proofs.number.write_number.Tie as tie
 
 abbrev Inv-loop : tie.InvT-loop
 Inv-loop out₀ at n end rest₀ i₀ out rest i = Writes out₀ at n out rest i

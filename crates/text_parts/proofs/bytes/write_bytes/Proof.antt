@@ -1,11 +1,11 @@
--- `transcript::bytes::write_bytes` meets its contract.
+-- `text_parts::bytes::write_bytes` meets its contract.
 use Prim.Native.Nat.{_-_}
 use native.Mathlib.Omega.{arith}
 use borrow.Author.Needs.{needs}
 use lib.ListN.{length}
-use Rattle.transcript.proofs.Stores.{Copied, copy-start, copy-more, copy-end}
-use Rattle.transcript.proofs.bytes.write_bytes.Statement.{statement}
-use Rattle.transcript.proofs.bytes.write_bytes.Tie as tie
+use Rattle.text_parts.proofs.Stores.{Copied, copy-start, copy-more, copy-end}
+use Rattle.text_parts.proofs.bytes.write_bytes.Statement.{statement}
+use Rattle.text_parts.proofs.bytes.write_bytes.Tie as tie
 
 abbrev Inv-loop : tie.InvT-loop
 Inv-loop out₀ at text i₀ out i = Copied out₀ at text out i

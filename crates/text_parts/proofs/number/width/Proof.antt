@@ -1,9 +1,9 @@
--- `transcript::number::width` meets its contract.
+-- `text_parts::number::width` meets its contract.
 use native.Mathlib.Omega.{arith}
 use borrow.Author.Needs.{needs}
-use Rattle.transcript.proofs.Digits.{Counted, count-start, count-more, count-end}
-use Rattle.transcript.proofs.number.width.Statement.{statement}
-use Rattle.transcript.proofs.number.width.Tie as tie
+use Rattle.text_parts.proofs.Digits.{Counted, count-start, count-more, count-end}
+use Rattle.text_parts.proofs.number.width.Statement.{statement}
+use Rattle.text_parts.proofs.number.width.Tie as tie
 
 abbrev Inv-loop : tie.InvT-loop
 Inv-loop n rest₀ digits₀ rest digits = Counted n rest digits

@@ -66,6 +66,22 @@ pub decimal-width : (k n : ℕ) → n < 10 ^ suc k → length (decimal n) ≤ su
 unfolding decimal
 decimal-width k n h = digits-width 20 k n h
 
+-- no number has more than 20
+digits-most : (k n : ℕ) → length (digits k n) ≤ k
+unfolding digits
+digits-most zero n = omega arith
+digits-most (suc k) n =
+    elim (decLt n 10) [
+      | yes l ↦ rw (digits-small k n l) (omega arith)
+      | no l ↦
+          rw (digits-more k n (omega arith), length-append (digits k (n / 10)) ((48 + n % 10) ∷ []))
+          (omega (arith, digits-most k (n / 10)))
+    ]
+
+pub decimal-most : (n : ℕ) → length (decimal n) ≤ 20
+unfolding decimal
+decimal-most n = digits-most 20 n
+
 pub decimal-least : (n : ℕ) → 1 ≤ length (decimal n)
 unfolding decimal
 decimal-least n =

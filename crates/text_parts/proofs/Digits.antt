@@ -7,8 +7,8 @@ use mathlib.Core.List.{List, [], _∷_}
 use lib.ListN.{length, length-append, set, length-set}
 use lib.Seq.{sets, set-comm}
 use Rattle.model.specs.Transcript.{decimal}
-use Rattle.log.proofs.Progress.{sets-append}
-use Rattle.transcript.proofs.Decimal.{decimal-small, decimal-more, decimal-width}
+use Rattle.model.proofs.Progress.{sets-append}
+use Rattle.text_parts.proofs.Decimal.{decimal-small, decimal-more, decimal-width}
 
 -- what one more digit adds
 module _ {rest : ℕ} where

@@ -1,0 +1,13 @@
+-- Laws of the text.
+-- Its parts
+pub mod RowTexts
+pub mod TextParts
+-- What is claimed of it
+pub mod PlainFields
+pub mod RowPlaces
+pub mod EachOnce
+pub mod KeptRows
+pub mod LargestCsv
+pub mod StateText
+-- What is answered and left
+pub mod CsvAnswers

@@ -1,0 +1,34 @@
+// The text for spreadsheets: every shard's stable history as rows of comma-separated fields, written into a borrowed output. What it says is in
+// `specs/Csv.antt`.
+use model::Writing;
+ghost use mathlib.Core.Path.{_≡_};
+ghost use Rattle.model.specs.Results.{writingNumber, writingCount};
+ghost use Rattle.records.specs.Csv.{csvRejection, csvCount, csvWriting, afterCsv};
+
+mod history;
+mod kind;
+mod row;
+mod shard;
+mod text;
+
+// Writes the text of a state: its length, or the rejection (1, 9 or 8), which leaves the output untouched.
+pub fn csv(state: &[u64], out: &mut [u8]) -> Writing
+    ensures { λ r. ⌜ writingNumber r ≡ csvRejection (now (state .entry)) (now (out .entry)) ⌝ }
+    ensures { λ r. ⌜ writingCount r ≡ csvCount (now (state .entry)) (now (out .entry)) ⌝ }
+    ensures { λ r. ⌜ r ≡ csvWriting (now (state .entry)) (now (out .entry)) ⌝ }
+    ensures { λ _. ⌜ now (out .exit) ≡ afterCsv (now (state .entry)) (now (out .entry)) ⌝ }
+{
+    let shards = wellformed::shard_count(state.len());
+    if shards == 0 {
+        return Writing::Rejected(1);
+    }
+    if !wellformed::well_formed(state) {
+        return Writing::Rejected(9);
+    }
+    let length = text::text_length(state, shards);
+    if out.len() < length {
+        return Writing::Rejected(8);
+    }
+    text::write_text(out, state, shards);
+    Writing::Bytes(length)
+}

@@ -1,0 +1,5 @@
+-- The laws that the functions' proofs cite, and those of whoever writes a text with them.
+pub mod Decimal
+pub mod Digits
+pub mod Stores
+pub mod PartLoops
