@@ -57,3 +57,11 @@ longest {w} {z} s =
     let t = pick-settled s 31 (omega arith) in
     let p = pick-prefix s 31 (omega arith) in
     record { has = t .has; entries = p ∙ t .entries; count = ap length p ∙ t .count }
+
+-- the same of a place that is known to be the pick's
+module _ {w : List ℕ} {z p : ℕ} (s : OfShard w z) (e : p ≡ longestPlace w z 31) where
+  pub picked : HasEntries w p
+  picked = rw e (longest s .has)
+
+  pub picked-entries : stableHistory w z ≡ entriesAt w p
+  picked-entries = rw e (longest s .entries)

@@ -7,9 +7,9 @@ use mathlib.Core.List.{List, _++_}
 use lib.ListN.{length, length-append}
 use borrow.Author.Tests.{le-leb}
 use Rattle.model.specs.Layout.{shardsOf, isStateLength}
-use Rattle.histories.specs.Entries.{entriesAt, HasEntries}
+use Rattle.histories.specs.Entries.{entriesAt}
 use Rattle.histories.specs.History.{longestPlace, OfShard}
-use Rattle.histories.proofs.Longest.{longest}
+use Rattle.histories.proofs.Longest.{picked-entries}
 use Rattle.text_parts.proofs.PartLoops.{Measured}
 use Rattle.records.specs.Format.{rowText}
 use Rattle.records.specs.Rows.{rows}
@@ -22,12 +22,9 @@ use Rattle.records.proofs.LargestCsv.{csv-largest}
 -- ---- a shard
 
 module _ {w : List ℕ} {z p : ℕ} (s : OfShard w z) (e : p ≡ longestPlace w z 31) where
-  pub picked : HasEntries w p
-  picked = rw e (longest s .has)
-
   pub shard-text : shardText w z ≡ historyText z (entriesAt w p)
   unfolding shardText
-  shard-text = rw (e, longest s .entries)
+  shard-text = rw (picked-entries s e)
 
 -- ---- the state
 

@@ -2,7 +2,8 @@
 use native.Mathlib.Omega.{arith}
 use mathlib.Core.Path.{sym, _∙_}
 use borrow.Author.Tests.{not-true, not-false}
-use Rattle.histories.proofs.Histories.{of-shard, answers, rejects-length, rejects-shard, rejects-form, picked, lists}
+use Rattle.histories.proofs.Longest.{picked}
+use Rattle.histories.proofs.Histories.{of-shard, answers, rejects-length, rejects-shard, rejects-form, lists}
 use borrow.Author.Needs.{needs}
 use Rattle.histories.proofs.history.stable_history.Statement.{statement}
 use Rattle.histories.proofs.history.stable_history.Tie as tie
@@ -45,10 +46,7 @@ longest-requires c κs =
     (sym (c .before .well-formed .ensures) ∙ not-false _ (c .if3 .left))
 
 copy-entries-requires : tie.Need-copy-entries-requires
-copy-entries-requires c κs =
-    let t = c .before .before in
-    let a = t .before .before .before .before .before .before .before .args in
-    picked (a .state .now) (a .shard) (a .out .now) (longest-requires t (c .before .longest .lifetimes)) (c .before .longest .ensures)
+copy-entries-requires c κs = picked (longest-requires (c .before .before) (c .before .longest .lifetimes)) (c .before .longest .ensures)
 
 same-length : tie.Need-same-length
 same-length c = search needs

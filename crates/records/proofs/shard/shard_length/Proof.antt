@@ -1,5 +1,6 @@
 -- `records::shard::shard_length` meets its contract.
-use Rattle.records.proofs.StateText.{picked, shard-text}
+use Rattle.histories.proofs.Longest.{picked}
+use Rattle.records.proofs.StateText.{shard-text}
 use borrow.Author.Needs.{needs}
 use Rattle.records.proofs.shard.shard_length.Statement.{statement}
 use Rattle.records.proofs.shard.shard_length.Tie as tie

@@ -1,5 +1,6 @@
 -- `records::shard::write_shard` meets its contract.
-use Rattle.records.proofs.StateText.{picked, shard-text}
+use Rattle.histories.proofs.Longest.{picked}
+use Rattle.records.proofs.StateText.{shard-text}
 use borrow.Author.Needs.{needs}
 use Rattle.records.proofs.shard.write_shard.Statement.{statement}
 use Rattle.records.proofs.shard.write_shard.Tie as tie
