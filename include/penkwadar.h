@@ -91,8 +91,8 @@ extern "C" {
 
 /* ---- Rejections ----
  *
- * Of a step, in this order: 1, 3, 4, 7, 9, and then of an add 10, 12, 17, 15, 16; an adopt 10, 11, 14, 12, 13; a learn
- * 10, 11, 12, 18, 19; a wedge 10, 11, 12; an install 10, 11, 20, 21, 22; an inherit 10, 11, 12, 13. */
+ * Of a step, in this order: 1, 3, 4, 7, 9, and then of an add 10, 12, 17, 15, 23, 16; an adopt 10, 11, 14, 12, 13; a
+ * learn 10, 11, 12, 18, 19; a wedge 10, 11, 12; an install 10, 11, 20, 21, 22; an inherit 10, 11, 12, 13. */
 
 /* because of the input */
 #define PENKWADAR_STATE_LENGTH 1   /* the state's length is no 2,112 x Z, Z from 2 to 8 */
@@ -120,7 +120,9 @@ extern "C" {
 #define PENKWADAR_NOT_ALIKE 19        /* a list is shorter than the length, or lists are not alike that far */
 #define PENKWADAR_NO_STABLE_ISSUE 20  /* the place is not stable, or has no issue for the zone */
 #define PENKWADAR_NOT_NEXT_INDEX 21   /* the issue's index is not the next one */
-#define PENKWADAR_EARLIER_ISSUE 22    /* an earlier issue there has the same zone and index */
+#define PENKWADAR_EARLIER_ISSUE 22    /* an earlier issue there has the same zone and index; no step gets this on a state
+                                         that comes from setup by these functions alone */
+#define PENKWADAR_INDEX_ISSUED 23     /* another issue in the list has the same zone and index */
 
 /* ---- Setup and steps ---- */
 
@@ -132,7 +134,7 @@ uint64_t penkwadar_state_words(uint64_t zones);
  * Rejections: 1, 2. */
 uint64_t penkwadar_setup(uint64_t *state, size_t state_len, const uint64_t *plan, size_t plan_len);
 
-/* Tries one step. Rejections: 1, 3, 4, 7, 9, and those of the kind, 10 to 22. */
+/* Tries one step. Rejections: 1, 3, 4, 7, 9, and those of the kind, 10 to 23. */
 uint64_t penkwadar_step(uint64_t *state, size_t state_len, uint64_t kind, uint64_t a, uint64_t b, uint64_t c,
                         uint64_t d);
 

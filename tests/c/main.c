@@ -24,6 +24,8 @@ enum { PENDING = PENKWADAR_PENDING, ACTIVE = PENKWADAR_ACTIVE, IMMUTABLE = PENKW
 
 /* Boxes 3 and 5, orderer 3, for index 2 of zone 1. */
 #define ISSUE PENKWADAR_ISSUE(2, 1, 3, PENKWADAR_MEMBER(3) + PENKWADAR_MEMBER(5))
+/* Another one for that index: orderer 5. */
+#define RIVAL PENKWADAR_ISSUE(2, 1, 5, PENKWADAR_MEMBER(3) + PENKWADAR_MEMBER(5))
 
 static unsigned checks, failed;
 
@@ -186,6 +188,8 @@ static void check_reconfiguration(void)
 {
     const uint64_t *heir = state + PENKWADAR_SEAT(1, 2, 0);
     CHECK(step(ADD, 0, 1, ISSUE, 0) == 0);
+    CHECK(step(ADD, 0, 1, ISSUE, 0) == PENKWADAR_ENTRY_HELD && state_unchanged());
+    CHECK(step(ADD, 0, 1, RIVAL, 0) == PENKWADAR_INDEX_ISSUED && state_unchanged());
     CHECK(step(ADOPT, 0, 1, 1, 0) == 0);
     CHECK(step(LEARN, 0, 1, 1, 2) == 0);
     CHECK(step(ADD, 1, 1, 300, 0) == 0);

@@ -4,6 +4,7 @@ use Prim.Native.Nat.{ℕ, _+_, _-_, _*_, _≤_, _<_}
 use native.Mathlib.Nat.{add-sub-cancel-left}
 use native.Mathlib.Omega.{arith}
 use mathlib.Core.Path.{_≡_, sym, ap, _∙_}
+use mathlib.Core.Bool.{not}
 use mathlib.Core.List.{List}
 use lib.ListN.{length, getD, take, drop, length-drop}
 use lib.Seq.{getD-take, getD-drop, length-take-le}
@@ -17,7 +18,8 @@ use Rattle.lookup.specs.Ready.{Ready, ReadyHost}
 use Rattle.lookup.proofs.Fields.{formed, stable-word}
 use Rattle.lookup.proofs.Seats.{At, words-at}
 use Rattle.lookup.proofs.Words.{length-word, history-words}
-use Rattle.install_steps.proofs.NoneNames.{none-same}
+use Rattle.lookup.specs.Issues.{issuedIn}
+use Rattle.lookup.proofs.IssueScans.{none-issued}
 
 -- ---- head words
 
@@ -74,9 +76,14 @@ module _ {w : List ℕ} {z j h p : ℕ} (r : ReadyHost w z j h) (a : At w (seque
 
   -- the entries before a stable one
   pub none-is : (i q : ℕ) → q < getD w (p + 2) 0 → p + 64 ≤ length w → q ≤ 55
-      → noneBefore z i q (issuer w z j h .history)
-      ≡ noneBefore z i (length (take (p + 8 + q - (p + 8)) (drop (p + 8) w))) (take (p + 8 + q - (p + 8)) (drop (p + 8) w))
+      → noneBefore z i q (issuer w z j h .history) ≡ not (issuedIn z i (take (p + 8 + q - (p + 8)) (drop (p + 8) w)))
   none-is i q l f b =
-      rw (add-sub-cancel-left (p + 8) q, length-take-le q (drop (p + 8) w) (rw length-drop (omega arith)))
-      (none-same z i (issuer w z j h .history) (take q (drop (p + 8) w)) q
-      (λ k g. entry-is k (omega arith) ∙ sym (getD-take q (drop (p + 8) w) k 0 g ∙ getD-drop (p + 8) w k 0)))
+      rw (add-sub-cancel-left (p + 8) q)
+      (ap (λ (k : ℕ). noneBefore z i k (issuer w z j h .history)) (sym long)
+      ∙ none-issued z i (issuer w z j h .history) (take q (drop (p + 8) w))
+      (λ k g.
+      let below : k < q = omega (arith, g, long) in
+      entry-is k (omega arith) ∙ sym (getD-take q (drop (p + 8) w) k 0 below ∙ getD-drop (p + 8) w k 0)))
+    where
+      long : length (take q (drop (p + 8) w)) ≡ q
+      long = length-take-le q (drop (p + 8) w) (rw length-drop (omega arith))

@@ -5,22 +5,25 @@ use native.Mathlib.Omega.{arith}
 use mathlib.Core.Path.{_≡_, refl, sym, ap, ap₂, _∙_}
 use mathlib.Core.Bool.{Bool, true, false, cond, not}
 use mathlib.Core.List.{List}
-use borrow.Author.Tests.{lt-ltb, le-ltb, eq-eqb, ne-eqb, not-true, not-false}
-use lib.ListN.{length, getD, take, drop}
+use borrow.Author.Tests.{lt-ltb, le-ltb, eqb-true, eq-eqb, ne-eqb, not-true, not-false}
+use lib.Dec.{eqb}
+use lib.ListN.{getD, take, drop}
 use Rattle.model.specs.declared.kind.Kind.the-variants.{Install}
 use Rattle.model.specs.Checks.{firstOf}
 use Rattle.model.specs.Kinds.{isKept, isUnknown, namesHost}
 use Rattle.model.specs.Rules.{Known, mostFourth}
-use Rattle.model.specs.Entries.{isIssueFor, issueIndex, issueMembers, issueOrderer}
+use Rattle.model.specs.Entries.{isIssue, isIssueFor, issueShard, issueIndex, issueMembers, issueOrderer}
 use Rattle.model.specs.Layout.{sequencer}
-use Rattle.model.specs.Install.{issuedAt, noneBefore, isStableIssue, installChecks, installNext, installEffect}
+use Rattle.model.specs.Install.{issuer, issuedAt, noneBefore, isStableIssue, installChecks, installNext, installEffect}
 use Rattle.model.specs.Steps.{areNumbers, kindChecks, kindEffect}
 use Rattle.model.proofs.Heads.{installed-word}
+use Rattle.model.proofs.Tests.{and-left, and-right}
 use Rattle.model.proofs.Checks.{AllPass, passed}
 use Rattle.model.proofs.WellFormedInstall.{issue-proper, next-index}
 use Rattle.lookup.specs.declared.Seat.{Seat}
 use Rattle.lookup.specs.Ready.{ReadyHost, Placed}
 use Rattle.lookup.specs.Seats.{seatOf}
+use Rattle.lookup.specs.Issues.{issuedIn}
 use Rattle.lookup.specs.Kinds.{ReadyKind, kindAnswer, kindAfter}
 use Rattle.lookup.proofs.Fields.{formed}
 use Rattle.lookup.proofs.Seats.{At, at-found, early}
@@ -78,6 +81,15 @@ module _ {w : List ℕ} {n z j : ℕ} (p : ReadyKind w n z j) (h q : ℕ) {b : B
           no-issue m =
               rejects Install p h q test e (simp (at .there, at .member, third, sym k ∙ not-true t m)) (λ o. omega arith)
 
+          issue-for : not t ≡ false → (isIssue (getD w (r .place + 8 + q) 0) ≡ true) × (eqb (issueShard (getD w (r .place + 8 + q) 0)) z ≡ true)
+          unfolding isIssueFor
+          issue-for g =
+              let issues : isIssueFor z (getD w (r .place + 8 + q) 0) ≡ true = sym k ∙ not-false t g in
+              search (and-left, and-right)
+
+          pub is-issue : not t ≡ false → isIssue (getD w (r .place + 8 + q) 0) ≡ true
+          is-issue g = issue-for g .0
+
           module _ (g : not t ≡ false) {x : ℕ} (y : x ≡ issueIndex (getD w (r .place + 8 + q) 0)) where
             issued : isStableIssue w z j h q ≡ true
             unfolding entry
@@ -94,9 +106,15 @@ module _ {w : List ℕ} {n z j : ℕ} (p : ReadyKind w n z j) (h q : ℕ) {b : B
                 rejects Install p h q test e (simp (at .there, at .member, issued, index-is, installed-word, ne-eqb _ _ m)) (λ o. omega arith)
 
             module _ (f : x ≡ getD w (z * 2112 + 1) 0 + 1) (fits : Placed w (r .place)) {u : Bool}
-                (v : u ≡ noneBefore z x (length (take (r .place + 8 + q - (r .place + 8)) (drop (r .place + 8) w)))
+                (v : u ≡ issuedIn (issueShard (getD w (r .place + 8 + q) 0)) (issueIndex (getD w (r .place + 8 + q) 0))
                 (take (r .place + 8 + q - (r .place + 8)) (drop (r .place + 8) w))) where
-              last : cond u 0 22 ≡ firstOf (installChecks w z j h q)
+              -- the last check, as the code makes it
+              fifth : noneBefore z x q (issuer w z j h .history) ≡ not u
+              fifth =
+                  let shard : issueShard (getD w (r .place + 8 + q) 0) ≡ z = eqb-true _ _ (issue-for g .1) in
+                  rw (v, ← y, shard) (none-is named at x q l (fits .fits) few)
+
+              last : cond (not u) 0 22 ≡ firstOf (installChecks w z j h q)
               unfolding installChecks firstOf
               last =
                   simp (
@@ -106,16 +124,16 @@ module _ {w : List ℕ} {n z j : ℕ} (p : ReadyKind w n z j) (h q : ℕ) {b : B
                     index-is,
                     installed-word,
                     eq-eqb _ _ f,
-                    none-is named at x q l (fits .fits) few ∙ sym v,
+                    fifth,
                   )
 
-              pub earlier : not u ≡ true → (22 ≡ kindAnswer Install w z j h q) × (w ≡ kindAfter Install w z j h q)
+              pub earlier : u ≡ true → (22 ≡ kindAnswer Install w z j h q) × (w ≡ kindAfter Install w z j h q)
               unfolding kindChecks
-              earlier m = rejects Install p h q test e (rw (not-true u m) at last) (λ o. omega arith)
+              earlier m = rejects Install p h q test e (rw m at last) (λ o. omega arith)
 
-              module _ (i : not u ≡ false) where
+              module _ (i : u ≡ false) where
                 first : 0 ≡ firstOf (installChecks w z j h q)
-                first = rw (not-false u i) at last
+                first = rw i at last
 
                 passes : AllPass (installChecks w z j h q)
                 unfolding installChecks

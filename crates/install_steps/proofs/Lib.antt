@@ -1,5 +1,4 @@
 -- Laws that the proofs of an install share.
-pub mod NoneNames
 pub mod PendingStores
 pub mod InstallReads
 pub mod InstallStores

@@ -5,4 +5,6 @@ pub mod Words
 pub mod Seats
 pub mod Orderers
 pub mod Stores
+pub mod Scans
+pub mod IssueScans
 pub mod KindAnswers

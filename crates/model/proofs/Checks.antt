@@ -6,7 +6,7 @@ use mathlib.Core.Bool.{Bool, true, false, cond, not, _&&_, _||_}
 use mathlib.Core.List.{List, [], _∷_, _++_}
 use lib.Dec.{leb, ltb, eqb}
 use lib.ListN.{length}
-use borrow.Author.Tests.{leb-true, ltb-true, eq-eqb}
+use borrow.Author.Tests.{leb-true, ltb-true, eq-eqb, eqb-false}
 use Rattle.model.specs.declared.kind.Kind.{Kind}
 use Rattle.model.specs.declared.kind.Kind.the-variants.{Add, Adopt, Learn, Wedge, Install, Inherit, Kept, Unknown}
 use Rattle.model.specs.declared.step.Step.{Step}
@@ -79,6 +79,22 @@ never n (c ∷ cs) h p e =
         let z : _≡_ {A = ℕ} 0 1 = cc (t .0, eq-eqb (c .number) n f) in
         omega arith
 
+-- the checks before the first one with the number n, which all pass where n is told
+abbrev pub before : ℕ → List Check → List Check
+before n [] = []
+before n (c ∷ cs) = cond (eqb (c .number) n) [] (c ∷ before n cs)
+
+pub told : (n : ℕ) (cs : List Check) → firstOf cs ≡ n → AllPass (before n cs)
+unfolding firstOf
+told n [] e = tt
+told n (c ∷ cs) e = go (eqb (c .number) n) refl (c .passes) refl e (told n cs)
+  where
+    go : (t : Bool) → eqb (c .number) n ≡ t → (b : Bool) → c .passes ≡ b → cond b (firstOf cs) (c .number) ≡ n
+        → (firstOf cs ≡ n → AllPass (before n cs)) → AllPass (cond t [] (c ∷ before n cs))
+    go true p b q f rest = tt
+    go false p true q f rest = (q, rest f)
+    go false p false q f rest = absurd (eqb-false (c .number) n p f)
+
 -- no check of a kind has the number 0 or 9
 kind-numbers : (k : Kind) (w : List ℕ) (z j c d : ℕ)
     → (areNumbered (kindChecks k w z j c d) ≡ true) × (passAt 9 (kindChecks k w z j c d) ≡ true)
@@ -99,7 +115,7 @@ pub record InRange (Z : ℕ) (s : Step) : Type 0 where
   pub configuration : configurationOf s < 8
   pub numbers : areNumbers (kindOf (s .kind)) Z (s .c) (s .d) ≡ true
 
-in-range : (Z : ℕ) (s : Step) → inRange Z s ≡ true → InRange Z s
+pub in-range : (Z : ℕ) (s : Step) → inRange Z s ≡ true → InRange Z s
 unfolding inRange shardOf configurationOf
 in-range Z s e =
     let p = all-pass (ltb (s .a) Z) (leb 1 (s .b) ∷ leb (s .b) 8 ∷ areNumbers (kindOf (s .kind)) Z (s .c) (s .d) ∷ []) e in

@@ -58,7 +58,7 @@ pub offered-prefix : {o p l : List ℕ} → Begins p l → Offered o l → Offer
 offered-prefix {o} {p} {l} b f = record { on = λ n h. rw (begins-getD b n h) (f .on n (omega (arith, begins-le b))) }
 
 -- what is asked of each place of a list with one more entry: of the places before, and of the last
-last-or-before : (l : List ℕ) (e n : ℕ) → n < length (l ++ (e ∷ [])) → (n < length l) ⊎ (n ≡ length l)
+pub last-or-before : (l : List ℕ) (e n : ℕ) → n < length (l ++ (e ∷ [])) → (n < length l) ⊎ (n ≡ length l)
 last-or-before l e n h = go (ltb n (length l)) refl
   where
     go : (t : Bool) → ltb n (length l) ≡ t → (n < length l) ⊎ (n ≡ length l)

@@ -119,6 +119,7 @@ module _ {v v′ : View} {offer : List ℕ} {j : ℕ} (i : Inv v offer) (seen : 
         rooted = install-rooted;
         stemmed = install-stemmed;
         once = λ a b. rw (same-history a b) (i .once a b);
+        single = λ a b. rw (same-history a b) (i .single a b);
         offered = λ a b. rw (same-history a b) (i .offered a b);
       }
 

@@ -4,7 +4,7 @@ use Prim.Native.Nat.{ℕ, zero, suc, _+_, _*_, _/_, _%_, _^_, _<_}
 use native.Mathlib.Nat.{le-of-suc-le-suc, not-suc-le-zero}
 use native.Mathlib.Omega.{arith}
 use mathlib.Core.Path.{_≡_, refl, sym, ap, _∙_}
-use mathlib.Core.Bool.{Bool, true, false, cond}
+use mathlib.Core.Bool.{Bool, true, false, cond, not}
 use mathlib.Core.List.{List, [], _∷_, _++_}
 use borrow.Author.Tests.{eqb-true, not-true}
 use lib.ListN.{length, getD, drop}
@@ -12,7 +12,7 @@ use lib.Pow.{split, shr-shr}
 use Rattle.model.specs.Entries.{issue, isIssue, issueIndex, issueShard, issueOrderer, issueMembers, names, firstIssue}
 use Rattle.model.specs.Install.{noneBefore}
 use Rattle.model.specs.Prefixes.{Begins}
-use Rattle.model.proofs.Tests.{all-below}
+use Rattle.model.proofs.Tests.{all-below, below-all}
 use Rattle.model.proofs.Prefixes.{begins-rest}
 
 -- a list that goes on has the same first issue
@@ -41,6 +41,10 @@ first-at z i (x ∷ l) (suc p) h e n =
 pub none-before : (z i p : ℕ) (l : List ℕ) → noneBefore z i p l ≡ true → (q : ℕ) → q < p → names z i (getD l q 0) ≡ false
 unfolding noneBefore
 none-before z i p l e q h = not-true (names z i (getD l q 0)) (search (all-below _ _ e))
+
+pub none-there : (z i p : ℕ) (l : List ℕ) → ((q : ℕ) → q < p → names z i (getD l q 0) ≡ false) → noneBefore z i p l ≡ true
+unfolding noneBefore
+none-there z i p l h = below-all p (λ q. not (names z i (getD l q 0))) (λ q g. rw (h q g))
 
 -- a number from its digits: 8, 4, 4 and 16 bits, and 1 above them
 digits : (e a b c d m o s i : ℕ) → a * 2 ^ 16 + m ≡ e → b * 2 ^ 4 + o ≡ a → c * 2 ^ 4 + s ≡ b → d * 2 ^ 8 + i ≡ c → d ≡ 1

@@ -41,6 +41,7 @@ inv-same {v} {v′} {o} {o′} i e d =
       rooted = i .rooted;
       stemmed = i .stemmed;
       once = i .once;
+      single = i .single;
       offered = λ a b. offered-wider d (i .offered a b);
     })
 

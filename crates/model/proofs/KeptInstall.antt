@@ -8,10 +8,9 @@ use mathlib.Core.Path.{_≡_, refl, sym, ap, subst, _∙_}
 use mathlib.Core.Bool.{true}
 use mathlib.Core.List.{List, [], _∷_}
 use lib.Dec.{lit≤, lit<}
-use borrow.Author.Tests.{eq-eqb}
 use lib.ListN.{length, getD}
 use Rattle.model.specs.Members.{size, replicaNumber, isConfiguration}
-use Rattle.model.specs.Entries.{issue, isIssue, isIssueFor, issueIndex, issueShard, issueOrderer, issueMembers, names, firstIssue}
+use Rattle.model.specs.Entries.{issue, isIssue, issueIndex, issueShard, issueOrderer, issueMembers, names, firstIssue}
 use Rattle.model.specs.Replicas.{Replica, readReplica, stablePrefix, pending, unused}
 use Rattle.model.specs.Layout.{headWord, sequencer, installed, members, orderer, replicaAt}
 use Rattle.model.specs.Install.{issuer, issuedAt, noneBefore, installChecks, installNext, installEffect}
@@ -28,6 +27,7 @@ use Rattle.model.proofs.KindMoves.{prefix-length}
 use Rattle.model.proofs.InstallMove.{SeenNew, as-it-was, now-pending, still-unused, install-keeps, install-grows}
 use Rattle.model.proofs.StateViews.{view, view-in, InView, inside, outside, in-view, stable-begins, stable-grows}
 use Rattle.model.proofs.Issues.{first-stays, first-at, none-before, issue-word, issue-not-zero}
+use Rattle.model.proofs.Rivals.{names-own}
 use Rattle.model.proofs.Forward.{Forward}
 use Rattle.model.proofs.WellFormed.{size-of}
 use Rattle.model.proofs.WellFormedParts.{Vacant, part-vacant}
@@ -241,9 +241,7 @@ module _ {w : List ℕ} {offers : ℕ → List ℕ} (x : Safe w offers) {z j : �
   issuer-view = member-view (formed x) (sequencer-below x z hz) hj h (search)
 
   names-entry : names z (issueIndex entry) entry ≡ true
-  unfolding names isIssueFor
-  names-entry =
-      rw (said .1, eq-eqb (issueShard entry) z (said .2), eq-eqb (issueIndex entry) (issueIndex entry) refl)
+  names-entry = rw (said .2) at (names-own entry (said .1))
 
   before-none : noneBefore z (issueIndex entry) p (issuer w z j h .history) ≡ true
   unfolding installChecks entry

@@ -14,7 +14,7 @@ use Rattle.model.specs.Members.{size, hasMember, replicaNumber}
 use Rattle.model.specs.Replicas.{Replica, unused, isActive, isPending, isImmutable, added, adopted, learned, wedged, inherited}
 use Rattle.model.specs.Layout.{place, part, isInstalled, members, orderer, putReplica, replicaAt}
 use Rattle.model.specs.Configuration.{configuration, replicaPlace, replicaOf}
-use Rattle.model.specs.Add.{ordererPlace, ordererReplica, addChecks, addEffect}
+use Rattle.model.specs.Add.{ordererPlace, ordererReplica, noRival, addChecks, addEffect}
 use Rattle.model.specs.Adopt.{adoptChecks, adoptEffect}
 use Rattle.model.specs.Learn.{alike, allAlike, learnChecks, learnEffect}
 use Rattle.model.specs.Wedge.{wedgeChecks, wedgeEffect}
@@ -137,6 +137,7 @@ module _ {w : List ℕ} {offers : ℕ → List ℕ} (x : Safe w offers) {z j : �
       let member : hasMember (members w z j) h ≡ true = orderer-is-member (formed x) hz hj there in
       let active : isActive (replicaOf w (configuration w z j) h) ≡ true = search in
       let new : not (contains e (replicaOf w (configuration w z j) h .history)) ≡ true = search in
+      let first : noRival e (replicaOf w (configuration w z j) h .history) ≡ true = search in
       let room : ltb (length (replicaOf w (configuration w z j) h .history)) 56 ≡ true = search in
       rw (shown h member)
       (at-member h member (added e (view w z j (number h)))
@@ -144,6 +145,7 @@ module _ {w : List ℕ} {offers : ℕ → List ℕ} (x : Safe w offers) {z j : �
       wide
       (add-move (x .inv z hz) j (number h) e (active-mode _ (rw (shown h member) at active))
       (not-true _ (rw (shown h member) at new))
+      (rw (shown h member) at first)
       (wide z)
       o))
     where

@@ -12,10 +12,12 @@ use borrow.Author.Tests.{leb-true, leb-false}
 use lib.ListN.{length, take, length-append}
 use lib.Seq.{take-append-le, length-take-le, take-nil}
 use Rattle.model.specs.Tests.{contains}
+use Rattle.model.specs.Add.{noRival}
 use Rattle.model.specs.Replicas.{Replica, stablePrefix, added, adopted, learned, wedged, inherited}
 use Rattle.model.specs.Prefixes.{Begins}
 use Rattle.model.proofs.Prefixes.{begins-le, begins-refl, begins-trans, begins-append, begins-take-take, begins-same, begins-nil}
 use Rattle.model.proofs.Histories.{Wider, once-append, offered-append, offered-wider}
+use Rattle.model.proofs.Rivals.{single-append}
 use Rattle.model.proofs.Views.{View, Root, Stem, Inv}
 use Rattle.model.proofs.Moves.{Move}
 
@@ -84,10 +86,10 @@ module _ {v : View} {offer : List ℕ} (i : Inv v offer) where
   unfolding stablePrefix added
   added-prefix j k e = take-append-le (v j k .stable) (v j k .history) (e ∷ []) (i .fits j k)
 
-  pub add-move : {offer′ : List ℕ} (j k e : ℕ) → v j k .mode ≡ 2 → contains e (v j k .history) ≡ false → Wider offer offer′
-      → contains e offer′ ≡ true → Move v offer′ j k (added e (v j k))
+  pub add-move : {offer′ : List ℕ} (j k e : ℕ) → v j k .mode ≡ 2 → contains e (v j k .history) ≡ false → noRival e (v j k .history) ≡ true
+      → Wider offer offer′ → contains e offer′ ≡ true → Move v offer′ j k (added e (v j k))
   unfolding added
-  add-move {offer′} j k e a n w o =
+  add-move {offer′} j k e a n u w o =
       record {
         live = omega (arith, a);
         notImmutable = active-not a;
@@ -98,6 +100,7 @@ module _ {v : View} {offer : List ℕ} (i : Inv v offer) where
         rooted = λ b q. root-append e (own-root j k (omega (arith, a)) b q);
         stemmed = λ b p q h g. rw (added-prefix j k e) (own-stem j k (omega (arith, a)) b p q h);
         once = once-append e (i .once j k) n;
+        single = single-append e (i .single j k) n u;
         offered = offered-append e (offered-wider w (i .offered j k)) o;
       }
 
@@ -115,6 +118,7 @@ module _ {v : View} {offer : List ℕ} (i : Inv v offer) where
         rooted = own-root j k (omega (arith, a));
         stemmed = λ b p q h g. own-stem j k (omega (arith, a)) b p q h;
         once = i .once j k;
+        single = i .single j k;
         offered = i .offered j k;
       }
 
@@ -150,6 +154,7 @@ module _ {v : View} {offer : List ℕ} (i : Inv v offer) where
           rooted = λ c e. at-pred e (record { number = q; isImmutable = s; begins = begins-refl });
           stemmed = λ c p e h g. stem-at-pred e (record { number = q; isImmutable = s; begins = begins-refl });
           once = i .once b q;
+          single = i .single b q;
           offered = i .offered b q;
         }
       where
@@ -187,6 +192,7 @@ module _ {v : View} {offer : List ℕ} (i : Inv v offer) where
           rooted = own-root j k (omega (arith, a));
           stemmed = λ b p q h g. absurd (ready p h);
           once = i .once j k;
+          single = i .single j k;
           offered = i .offered j k;
         }
 
@@ -245,5 +251,6 @@ module _ {v : View} {offer : List ℕ} (i : Inv v offer) where
           rooted = λ b q. rw (adopted-history (v j o) (v j k)) (own-root j o l b q);
           stemmed = λ b p q h g. adopt-stem b p q h;
           once = rw (adopted-history (v j o) (v j k)) (i .once j o);
+          single = rw (adopted-history (v j o) (v j k)) (i .single j o);
           offered = rw (adopted-history (v j o) (v j k)) (i .offered j o);
         }

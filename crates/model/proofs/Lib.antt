@@ -31,6 +31,7 @@ pub mod ProgramStart
 -- One shard
 pub mod Prefixes
 pub mod Histories
+pub mod Rivals
 pub mod Views
 pub mod Moves
 pub mod KindMoves
@@ -53,6 +54,7 @@ pub mod Trace
 pub mod ReferenceShard
 pub mod Moments
 pub mod OneList
+pub mod OneIssue
 pub mod StableGrowth
 pub mod Appointed
 -- The log

@@ -1,17 +1,18 @@
 -- The proof of `specs/Marked.antt`: setup's state is well-formed, so every row computes.
 use mathlib.Core.Path.{_≡_, refl, _∙_}
 use lib.Count.{ones}
-use Rattle.model.specs.Tests.{allBelow, concatBelow, contains}
+use Rattle.model.specs.Tests.{allBelow, allOf, concatBelow, contains}
 use Rattle.model.specs.Checks.{firstOf}
 use Rattle.model.specs.Kinds.{kindOf, isKept, isUnknown, usedNumbers}
-use Rattle.model.specs.Entries.{isTake, issue, isIssue, issueShard, issueIndex, issueOrderer, issueMembers, isProperIssue, isEntry, isIssueFor}
+use Rattle.model.specs.Entries.{isTake, issue, isIssue, issueShard, issueIndex, issueOrderer, issueMembers, isProperIssue, isEntry}
+use Rattle.model.specs.Entries.{isIssueFor, rivals}
 use Rattle.model.specs.Members.{isHost, hasMember, replicaNumber, isMemberSet, isConfiguration}
 use Rattle.model.specs.Replicas.{readReplica, replicaWords, unused, fresh, isActive, isPending, isImmutable, added, adopted, learned, wedged, pending}
 use Rattle.model.specs.Layout.{headPlace, place, headWord, sequencer, installed, members, orderer, isInstalled, part, replicaAt, putReplica, putHead}
 use Rattle.model.specs.Configuration.{configuration, replicaPlace, replicaOf}
 use Rattle.model.specs.Setup.{planSequencer, planMembers, planOrderer, initialHead, initialReplica, initialShard, initialState}
 use Rattle.model.specs.Transcript.{programPlan, programStart}
-use Rattle.model.specs.Add.{ordererPlace, ordererReplica, mayIssue, addChecks, addEffect}
+use Rattle.model.specs.Add.{ordererPlace, ordererReplica, mayIssue, noRival, addChecks, addEffect}
 use Rattle.model.specs.Adopt.{adoptChecks, adoptEffect}
 use Rattle.model.specs.Learn.{alike, allAlike, learnChecks, learnEffect}
 use Rattle.model.specs.Wedge.{wedgeChecks, wedgeEffect}
@@ -41,11 +42,11 @@ unfolding MarkedCases marked Computes takesUpTo nextIssue issue
     programStart initialState programPlan planSequencer planMembers planOrderer concatBelow initialShard initialHead initialReplica
     replicaWords readReplica fresh unused pending isActive isPending isImmutable added adopted learned wedged
     quickAnswers quickRejection quickAfter firstOf kindOf isKept isUnknown shardOf configurationOf inRange areNumbers kindChecks effect kindEffect
-    isEntry isTake isProperIssue isIssue isIssueFor issueIndex issueShard issueOrderer issueMembers
-    isConfiguration isMemberSet isHost hasMember ones contains allBelow
+    isEntry isTake isProperIssue isIssue isIssueFor issueIndex issueShard issueOrderer issueMembers rivals
+    isConfiguration isMemberSet isHost hasMember ones contains allBelow allOf
     headWord headPlace sequencer installed isInstalled members orderer putHead
     configuration place replicaPlace replicaNumber replicaOf replicaAt part putReplica
-    ordererPlace ordererReplica mayIssue addChecks addEffect adoptChecks adoptEffect
+    ordererPlace ordererReplica mayIssue noRival addChecks addEffect adoptChecks adoptEffect
     alike allAlike learnChecks learnEffect wedgeChecks wedgeEffect
     issuer issuedAt isStableIssue noneBefore installChecks installEffect installNext putPending source isSource inheritChecks
     readStep readNumber readGroups withLower readNumbers afterFirst withFirst afterKind afterNumbers usedNumbers stepOf

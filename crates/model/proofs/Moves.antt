@@ -1,4 +1,4 @@
--- A change of one replica keeps the invariant of its shard, if eight small facts hold of the new replica.
+-- A change of one replica keeps the invariant of its shard, if nine small facts hold of the new replica.
 -- Assumes nothing.
 use Prim.Native.Nat.{ℕ, suc, _≤_, _<_}
 use native.Mathlib.Omega.{arith}
@@ -9,6 +9,7 @@ use Rattle.model.specs.Replicas.{Replica, stablePrefix}
 use Rattle.model.specs.Prefixes.{Begins}
 use Rattle.model.proofs.Prefixes.{begins-take, begins-refl}
 use Rattle.model.proofs.Histories.{Once, Offered, Wider, offered-wider}
+use Rattle.model.proofs.Rivals.{Single}
 use Rattle.model.proofs.Views.{View, Root, Stem, Inv}
 
 -- what is seen at configuration a, replica b, after replica k of configuration j became r
@@ -30,6 +31,7 @@ pub record Move (v : View) (offer : List ℕ) (j k : ℕ) (r : Replica) : Type 0
   pub rooted : (a : ℕ) → j ≡ suc a → Root v a (r .history)
   pub stemmed : (a p : ℕ) → j ≡ suc a → v j p .mode ≡ 1 → (p ≡ k → ⊥) → Stem v a (stablePrefix r)
   pub once : Once (r .history)
+  pub single : Single (r .history)
   pub offered : Offered offer (r .history)
 
 -- a stable prefix begins its history
@@ -110,6 +112,13 @@ module _ {v v′ : View} {offer offer′ : List ℕ} {j k : ℕ} {r : Replica} (
       go (here p q e) = rw e (m .once)
       go (there n e) = rw e (i .once a b)
 
+  keep-single : (a b : ℕ) → Single (v′ a b .history)
+  keep-single a b = go (d .seen a b)
+    where
+      go : Seen v v′ j k r a b → Single (v′ a b .history)
+      go (here p q e) = rw e (m .single)
+      go (there n e) = rw e (i .single a b)
+
   keep-offered : (a b : ℕ) → Offered offer′ (v′ a b .history)
   keep-offered a b = go (d .seen a b)
     where
@@ -126,6 +135,7 @@ module _ {v v′ : View} {offer offer′ : List ℕ} {j k : ℕ} {r : Replica} (
         rooted = keep-rooted;
         stemmed = keep-stemmed;
         once = keep-once;
+        single = keep-single;
         offered = keep-offered;
       }
 

@@ -12,7 +12,8 @@ use Rattle.model.specs.declared.step.Step.{Step}
 use Rattle.model.specs.Tests.{allBelow, allOf, concatBelow, contains}
 use Rattle.model.specs.Checks.{firstOf}
 use Rattle.model.specs.Kinds.{kindOf, isKept, isUnknown, usedNumbers}
-use Rattle.model.specs.Entries.{isTake, issue, isIssue, issueShard, issueIndex, issueOrderer, issueMembers, isProperIssue, isEntry, isIssueFor, names}
+use Rattle.model.specs.Entries.{isTake, issue, isIssue, issueShard, issueIndex, issueOrderer, issueMembers, isProperIssue, isEntry}
+use Rattle.model.specs.Entries.{isIssueFor, names, rivals}
 use Rattle.model.specs.Members.{size, isHost, hasMember, replicaNumber, isMemberSet, isConfiguration}
 use Rattle.model.specs.Replicas.{Replica, readReplica, replicaWords, unused, fresh, isActive, isPending, isImmutable}
 use Rattle.model.specs.Replicas.{added, adopted, learned, wedged, pending, inherited}
@@ -22,7 +23,7 @@ use Rattle.model.specs.Configuration.{configuration, replicaPlace, repli
 use Rattle.model.specs.WellFormed.{wellFormed, isReplica}
 use Rattle.model.specs.Setup.{planSequencer, planMembers, planOrderer, initialHead, initialReplica, initialShard, initialState, setupRejection}
 use Rattle.model.specs.Transcript.{programPlan, programStart}
-use Rattle.model.specs.Add.{ordererPlace, ordererReplica, mayIssue, addChecks, addEffect}
+use Rattle.model.specs.Add.{ordererPlace, ordererReplica, mayIssue, noRival, addChecks, addEffect}
 use Rattle.model.specs.Adopt.{adoptChecks, adoptEffect}
 use Rattle.model.specs.Learn.{alike, allAlike, learnChecks, learnEffect}
 use Rattle.model.specs.Wedge.{wedgeChecks, wedgeEffect}
@@ -37,7 +38,7 @@ use Rattle.model.specs.Results.{stopNumber, stopCode, replayNumber, repl
 use Rattle.model.specs.Replay.{afterAll, replayRejection, replayed, rejectedIn}
 use Rattle.model.specs.Marked.{add, adopt, learn, wedge, install, inherit, takesUpTo, nextIssue}
 use Rattle.model.specs.OwnCases.{tried, changed, reported, tooShort, illFormed, borrowed, oneTake, replaced, goneOn}
-use Rattle.model.specs.OwnCases.{rivalIssue, laterIssue, twoIssues, heads}
+use Rattle.model.specs.OwnCases.{rivalIssue, laterIssue, otherIssue, unmarked, twoIssues, heads}
 use Rattle.model.specs.OwnCases.{Effects, StepOrder, KindOrders, ReaderOrder, WriterOrder, ReplayOrder, OwnCases}
 use Rattle.model.proofs.WellFormed.{WellFormed, well-formed}
 use Rattle.model.proofs.WellFormedParts.{Proper, proper}
@@ -99,45 +100,56 @@ replayed-ill : (log : List ℕ) (budget : ℕ) → reported illFormed log budget
 unfolding reported replayNumber replayCode replayBytes replayed rejectedIn replayRejection firstOf isStateLength
 replayed-ill log budget = rw (ill-shards, ill-formed)
 
--- the changed words are those of a proper replica
+-- the changed words of the borrowed states are those of a proper replica
 strange : Replica
 strange = record { mode = 2; history = nextIssue ∷ []; stable = 0 }
 
-strange-proper : Proper 2 0 strange
-unfolding strange isReplica isPending allOf isEntry isTake isProperIssue isIssue issueIndex issueShard issueOrderer issueMembers nextIssue issue
-    isConfiguration isMemberSet isHost hasMember ones
-strange-proper = proper 2 0 strange refl
+rivalling : Replica
+rivalling = record { mode = 2; history = nextIssue ∷ rivalIssue ∷ []; stable = 2 }
 
-borrowed-put : borrowed ≡ putReplica programStart (place 1 0 0) strange
-unfolding borrowed strange changed putReplica place replicaWords nextIssue issue
+both-proper : Proper 2 0 strange × Proper 2 0 rivalling
+unfolding strange rivalling isReplica isPending allOf isEntry isTake isProperIssue isIssue issueIndex issueShard issueOrderer issueMembers
+    nextIssue rivalIssue issue isConfiguration isMemberSet isHost hasMember ones
+both-proper = (proper 2 0 strange refl, proper 2 0 rivalling refl)
+
+both-put : (borrowed ≡ putReplica programStart (place 1 0 0) strange) × (twoIssues ≡ putReplica programStart (place 0 0 0) rivalling)
+unfolding borrowed twoIssues strange rivalling changed putReplica place replicaWords nextIssue rivalIssue issue
     programStart initialState programPlan planSequencer planMembers planOrderer concatBelow initialShard initialHead initialReplica fresh unused ones
-borrowed-put = refl
+both-put = (refl, refl)
 
-two-members : size (members programStart 1 0) ≡ 2
+two-members : (size (members programStart 0 0) ≡ 2) × (size (members programStart 1 0) ≡ 2)
 unfolding members headWord headPlace programStart initialState programPlan planSequencer planMembers planOrderer concatBelow initialShard initialHead ones
     replicaWords initialReplica fresh unused
-two-members = refl
+two-members = (refl, refl)
 
 borrowed-formed : WellFormed 2 borrowed
-borrowed-formed = rw borrowed-put (put-keeps start-formed (omega arith) (omega arith) (omega (arith, two-members)) strange strange-proper)
+borrowed-formed =
+    rw (both-put .0) (put-keeps start-formed (omega arith) (omega arith) (omega (arith, two-members .1)) strange (both-proper .0))
 
--- a step on it
+two-issues-formed : WellFormed 2 twoIssues
+two-issues-formed =
+    rw (both-put .1) (put-keeps start-formed (omega arith) (omega arith) (omega (arith, two-members .0)) rivalling (both-proper .1))
+
+-- a step on each
 on-borrowed : (s : Step) {n : ℕ} → quickRejection 2 borrowed s ≡ n → rejection borrowed s ≡ n
 on-borrowed s e = quick-rejection borrowed-formed s ∙ e
+
+on-two-issues : (s : Step) {n : ℕ} → quickRejection 2 twoIssues s ≡ n → rejection twoIssues s ≡ n
+on-two-issues s e = quick-rejection two-issues-formed s ∙ e
 
 -- ---- the table
 
 -- what steps leave, and the orders of the kinds: rows that compute by the same definitions
 by-kinds : Effects × KindOrders
-unfolding oneTake replaced goneOn heads takesUpTo nextIssue rivalIssue laterIssue twoIssues borrowed changed issue
+unfolding oneTake replaced goneOn heads takesUpTo nextIssue rivalIssue laterIssue otherIssue unmarked twoIssues borrowed changed issue
     programStart initialState programPlan planSequencer planMembers planOrderer concatBelow initialShard initialHead initialReplica
     replicaWords readReplica fresh unused pending isActive isPending isImmutable added adopted learned wedged inherited
     quickAnswers quickAfterAll quickRejection quickAfter firstOf kindOf isKept isUnknown shardOf configurationOf inRange areNumbers kindChecks effect kindEffect
-    isEntry isTake isProperIssue isIssue isIssueFor issueIndex issueShard issueOrderer issueMembers names
-    isConfiguration isMemberSet isHost hasMember ones contains allBelow
+    isEntry isTake isProperIssue isIssue isIssueFor issueIndex issueShard issueOrderer issueMembers names rivals
+    isConfiguration isMemberSet isHost hasMember ones contains allBelow allOf
     headWord headPlace sequencer installed isInstalled members orderer putHead
     configuration place replicaPlace replicaNumber replicaOf replicaAt part putReplica
-    ordererPlace ordererReplica mayIssue addChecks addEffect adoptChecks adoptEffect
+    ordererPlace ordererReplica mayIssue noRival addChecks addEffect adoptChecks adoptEffect
     alike allAlike learnChecks learnEffect wedgeChecks wedgeEffect
     issuer issuedAt isStableIssue noneBefore installChecks installEffect installNext putPending source isSource inheritChecks inheritEffect
 by-kinds = (
@@ -150,11 +162,27 @@ by-kinds = (
     inherits = left-after _ refl;
   },
   record {
-    adds = (from-start _ refl, from-start _ refl, on-borrowed _ refl, from-start _ refl);
+    adds = (
+      from-start _ refl,
+      from-start _ refl,
+      on-borrowed _ refl,
+      from-start _ refl,
+      on-two-issues _ refl,
+      from-start _ refl,
+      from-start _ refl,
+      on-borrowed _ refl,
+      from-start _ refl,
+    );
     adopts = (from-start _ refl, from-start _ refl, from-start _ refl, from-start _ refl);
     learns = (from-start _ refl, from-start _ refl, from-start _ refl, from-start _ refl);
     wedges = (from-start _ refl, from-start _ refl);
-    installs = (from-start _ refl, from-start _ refl, from-start _ refl, from-start _ refl, from-start _ refl);
+    installs = (
+      from-start _ refl,
+      from-start _ refl,
+      from-start _ refl,
+      quick-answers two-issues-formed _ ∙ refl,
+      on-two-issues _ refl,
+    );
     inherits = (from-start _ refl, from-start _ refl, from-start _ refl);
   },
 )

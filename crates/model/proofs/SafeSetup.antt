@@ -16,6 +16,7 @@ use Rattle.model.specs.OneList.{shards}
 use Rattle.model.proofs.Parts.{read-words}
 use Rattle.model.proofs.Prefixes.{begins-nil}
 use Rattle.model.proofs.Histories.{once-nil, offered-nil}
+use Rattle.model.proofs.Rivals.{single-nil}
 use Rattle.model.proofs.Views.{View, Inv}
 use Rattle.model.proofs.StateViews.{view, InView, inside, outside, in-view}
 use Rattle.model.proofs.InitialState.{initial-part, initial-installed, initial-members}
@@ -61,6 +62,7 @@ new-inv {v} n =
       rooted = λ j k q. absurd (omega (arith, new-mode (n (suc j) k) .1 q));
       stemmed = λ j p k q h. absurd (new-mode (n (suc j) p) .0 q);
       once = λ j k. rw (new-history (n j k)) once-nil;
+      single = λ j k. rw (new-history (n j k)) single-nil;
       offered = λ j k. rw (new-history (n j k)) offered-nil;
     }
 

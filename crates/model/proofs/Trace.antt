@@ -9,7 +9,7 @@ use borrow.Author.Tests.{eqb-true}
 use Rattle.model.specs.declared.step.Step.{Step}
 use Rattle.model.specs.Steps.{shardOf, rejection, effect, after}
 use Rattle.model.specs.Replay.{afterAll, afterReplay}
-use Rattle.model.specs.Runs.{Call, single, replay, triedBy, leftBy, Moment, moments, played, stateAt}
+use Rattle.model.specs.Runs.{Call, single, replay, triedBy, leftBy, Moment, moments, played, stateAt, answerAt}
 use Rattle.model.specs.Reference.{Reference, isAddIn, fed, fedAt}
 
 -- a list of moments in which each step is tried on what the one before left
@@ -63,3 +63,14 @@ next (more {w = w} {ms = ms} s r) (suc n) = shift (next r n)
     shift : {m : Moment} {u u′ : List ℕ} → Next ms n u u′ → Next (m ∷ ms) (suc n) u u′
     shift (stepped t a b f) = stepped t a b f
     shift (rested a f) = rested a f
+
+-- the answer at a moment is that of a step on the state there, or there is no step
+pub data Answered (u : List ℕ) (a : ℕ) : Type 0 where
+  answered : (s : Step) → a ≡ rejection u s → Answered u a
+  silent : a ≡ 0 → Answered u a
+
+pub answer : {w : List ℕ} {ms : List Moment} → Run w ms → (n : ℕ) → Answered (stateAt w ms n) (answerAt ms n)
+unfolding stateAt answerAt
+answer done n = silent refl
+answer (more s r) zero = answered s refl
+answer (more s r) (suc n) = answer r n

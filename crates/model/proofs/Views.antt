@@ -7,6 +7,7 @@ use lib.ListN.{length}
 use Rattle.model.specs.Replicas.{Replica, stablePrefix}
 use Rattle.model.specs.Prefixes.{Begins}
 use Rattle.model.proofs.Histories.{Once, Offered}
+use Rattle.model.proofs.Rivals.{Single}
 
 abbrev pub View : Type 0
 View = ℕ → ℕ → Replica
@@ -35,4 +36,5 @@ pub record Inv (v : View) (offer : List ℕ) : Type 0 where
   -- while a replica p is pending, nothing is stable that was not stable in the configuration before
   pub stemmed : (j p k : ℕ) → v (suc j) p .mode ≡ 1 → 2 ≤ v (suc j) k .mode → Stem v j (stablePrefix (v (suc j) k))
   pub once : (j k : ℕ) → Once (v j k .history)
+  pub single : (j k : ℕ) → Single (v j k .history)
   pub offered : (j k : ℕ) → Offered offer (v j k .history)

@@ -157,19 +157,23 @@ pub sequencer-below : (Z z q : ℕ) → isSequencer Z z q ≡ true → q < Z
 unfolding isSequencer
 sequencer-below Z z q e = ltb-true q Z (both (ltb q Z) (not (eqb q z)) .0 e .0)
 
+-- the test of 20: the entry is stable at its place, and an issue for this shard
+pub stable-tells : (w : List ℕ) (z j h p : ℕ) → isStableIssue w z j h p ≡ true
+    → (p < issuer w z j h .stable) × (isIssue (issuedAt w z j h p) ≡ true) × (issueShard (issuedAt w z j h p) ≡ z)
+unfolding isStableIssue isIssueFor
+stable-tells w z j h p t =
+    let tests : (ltb p (issuer w z j h .stable) ≡ true) × (isIssue (issuedAt w z j h p) ≡ true) × (eqb (issueShard (issuedAt w z j h p)) z ≡ true) =
+    search (and-left, and-right) in
+    (ltb-true p (issuer w z j h .stable) (tests .0), tests .1, eqb-true (issueShard (issuedAt w z j h p)) z (tests .2))
+
 module _ {Z : ℕ} {w : List ℕ} (f : WellFormed Z w) {z j : ℕ} (hz : z < Z) (hj : j < 8) (h p : ℕ) (c : AllPass (installChecks w z j h p)) where
   pub issuer-proper : Proper Z j (issuer w z j h)
   unfolding installChecks issuer
   issuer-proper = member-proper f (sequencer-below Z z (sequencer w z) (f .head z hz .sequenced)) hj h (search)
 
-  -- the entry is stable at its place, and an issue for this shard
   pub stable-issue : (p < issuer w z j h .stable) × (isIssue (issuedAt w z j h p) ≡ true) × (issueShard (issuedAt w z j h p) ≡ z)
-  unfolding installChecks isStableIssue isIssueFor
-  stable-issue =
-      let stable : ltb p (issuer w z j h .stable) ≡ true = search (and-left, and-right) in
-      let issues : isIssue (issuedAt w z j h p) ≡ true = search (and-left, and-right) in
-      let named : eqb (issueShard (issuedAt w z j h p)) z ≡ true = search (and-left, and-right) in
-      (ltb-true p (issuer w z j h .stable) stable, issues, eqb-true (issueShard (issuedAt w z j h p)) z named)
+  unfolding installChecks
+  stable-issue = stable-tells w z j h p (search)
 
   pub issue-proper : ProperIssue Z (issuedAt w z j h p)
   unfolding issuedAt

@@ -4,9 +4,9 @@ use mathlib.Core.Bool.{Bool, not, _||_}
 use mathlib.Core.List.{List, [], _∷_}
 use lib.Dec.{ltb, eqb}
 use lib.ListN.{length}
-use Rattle.model.specs.Tests.{contains}
+use Rattle.model.specs.Tests.{allOf, contains}
 use Rattle.model.specs.Checks.{Check, _orElse_}
-use Rattle.model.specs.Entries.{isIssue, issueShard}
+use Rattle.model.specs.Entries.{isIssue, issueShard, rivals}
 use Rattle.model.specs.Replicas.{Replica, mostEntries, isActive, added}
 use Rattle.model.specs.Layout.{sequencer, isInstalled, putReplica}
 use Rattle.model.specs.Configuration.{configuration, replicaPlace, replicaOf}
@@ -22,13 +22,18 @@ ordererReplica w z j = replicaOf w (configuration w z j) (configuration w z j .o
 unfoldable pub mayIssue : List ℕ → ℕ → ℕ → Bool
 mayIssue w z e = not (isIssue e) || eqb (sequencer w (issueShard e)) z
 
--- "add 10, 12, 17, 15, 16"
+-- A2, "23, issue's index already issued here": passes where no entry of a history is a rival of e
+unfoldable pub noRival : ℕ → List ℕ → Bool
+noRival e l = allOf (λ x. not (rivals e x)) l
+
+-- "add 10, 12, 17, 15, 16"; A2: 23 "after 15 and before 16"
 unfoldable pub addChecks : List ℕ → ℕ → ℕ → ℕ → List Check
 addChecks w z j e =
     isInstalled w z j orElse 10
     ∷ isActive (ordererReplica w z j) orElse 12
     ∷ mayIssue w z e orElse 17
     ∷ not (contains e (ordererReplica w z j .history)) orElse 15
+    ∷ noRival e (ordererReplica w z j .history) orElse 23
     ∷ ltb (length (ordererReplica w z j .history)) mostEntries orElse 16
     ∷ []
 

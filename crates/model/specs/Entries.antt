@@ -1,6 +1,6 @@
 -- The entries of a history (document 01, "State"): takes, and issues of configurations. One classification, cited everywhere.
 use Prim.Native.Nat.{ℕ, _+_, _*_, _/_, _%_, _^_}
-use mathlib.Core.Bool.{Bool, _&&_, _||_}
+use mathlib.Core.Bool.{Bool, not, _&&_, _||_}
 use mathlib.Core.List.{List, [], _∷_}
 use mathlib.Core.Bool.{cond}
 use lib.Dec.{leb, ltb, eqb}
@@ -47,6 +47,10 @@ isIssueFor z e = isIssue e && eqb (issueShard e) z
 -- an issue that names a shard and an index
 unfoldable pub names : ℕ → ℕ → ℕ → Bool
 names z i e = isIssueFor z e && eqb (issueIndex e) i
+
+-- A2: where e is an issue, x is "an issue for that zone and index with other content"
+unfoldable pub rivals : ℕ → ℕ → Bool
+rivals e x = isIssue e && names (issueShard e) (issueIndex e) x && not (eqb x e)
 
 -- "The first issue for a zone and index in a list is the issue naming both that has no issue naming both before it"; 0 where there is none
 unfoldable pub firstIssue : ℕ → ℕ → List ℕ → ℕ

@@ -27,6 +27,7 @@ pub mod Prefixes
 pub mod Runs
 pub mod Reference
 pub mod OneList
+pub mod OneIssue
 pub mod StableGrowth
 pub mod LongerLogs
 pub mod Appointed

@@ -3,7 +3,7 @@
 --
 -- Neighbours that never apply together are left out: 3 and 4; 1 and 9, since form is judged by shards and a wrong length has none; and adopt's 11 and 14,
 -- since the orderer is a member. The next pair stands in their place: 3 and 7, 1 and 3, adopt's 11 and 12.
-use Prim.Native.Nat.{ℕ, _+_, _^_}
+use Prim.Native.Nat.{ℕ, _+_, _-_, _^_}
 use mathlib.Core.Path.{_≡_}
 use mathlib.Core.List.{List, [], _∷_, _++_}
 use lib.ListN.{length, replicate}
@@ -53,6 +53,22 @@ reported w log budget =
     ∷ replayBytes w log budget
     ∷ []
 
+-- ---- issues beside `nextIssue`, which is for index 2 of shard 1
+
+-- a second one for that index, one for index 3, and one for index 2 of shard 0
+unfoldable pub rivalIssue : ℕ
+rivalIssue = issue 2 1 5 (2 ^ 3 + 2 ^ 5)
+
+unfoldable pub laterIssue : ℕ
+laterIssue = issue 3 1 3 (2 ^ 3 + 2 ^ 5)
+
+unfoldable pub otherIssue : ℕ
+otherIssue = issue 2 0 1 (2 ^ 1)
+
+-- what it has below its mark, which is a take
+unfoldable pub unmarked : ℕ
+unmarked = nextIssue - 2 ^ 32
+
 -- ---- states
 
 -- no state of this length
@@ -66,6 +82,10 @@ illFormed = changed programStart ((18, 1 ∷ []) ∷ [])
 -- the orderer of shard 1 has an issue for shard 1 in its history, which add would not put there
 unfoldable pub borrowed : List ℕ
 borrowed = changed programStart ((2177, 1 ∷ []) ∷ (2184, nextIssue ∷ []) ∷ [])
+
+-- the orderer of shard 0 has two issues for index 2 of shard 1, both stable; add would not put the second there
+unfoldable pub twoIssues : List ℕ
+twoIssues = changed programStart ((65, 2 ∷ 2 ∷ []) ∷ (72, nextIssue ∷ rivalIssue ∷ []) ∷ [])
 
 -- ---- scripts
 
@@ -89,17 +109,6 @@ replaced =
 -- .. both new hosts inherit, the new orderer adds take 13, the other adopts it and confirms both
 unfoldable pub goneOn : List Step
 goneOn = inherit 1 2 3 3 ∷ inherit 1 2 5 3 ∷ add 1 2 13 ∷ adopt 1 2 5 ∷ learn 1 2 5 2 ∷ []
-
--- a second issue for index 2 of shard 1, and one for index 3
-unfoldable pub rivalIssue : ℕ
-rivalIssue = issue 2 1 5 (2 ^ 3 + 2 ^ 5)
-
-unfoldable pub laterIssue : ℕ
-laterIssue = issue 3 1 3 (2 ^ 3 + 2 ^ 5)
-
--- both issues for index 2 are confirmed at host 0 of shard 0
-unfoldable pub twoIssues : List Step
-twoIssues = add 0 1 nextIssue ∷ add 0 1 rivalIssue ∷ adopt 0 1 1 ∷ learn 0 1 0 2 ∷ []
 
 -- what `replaced` leaves but for the replicas of index 2
 unfoldable pub heads : List (ℕ × List ℕ)
@@ -154,11 +163,17 @@ pub record StepOrder : Type 0 where
 
 -- each kind: the first of two neighbours is told
 pub record KindOrders : Type 0 where
-  -- "add 10, 12, 17, 15, 16"
+  -- "add 10, 12, 17, 15, 16", and 23 "after 15 and before 16", which for a take are next to each other. An issue for another index, an issue for another
+  -- shard, and a take that is an issue's word without its mark, are accepted
   pub adds : (tried (add 0 2 7 ∷ []) ≡ 10 ∷ [])
       × (tried (wedge 1 1 2 ∷ add 1 1 nextIssue ∷ []) ≡ 0 ∷ 12 ∷ [])
       × (rejection borrowed (add 1 1 nextIssue) ≡ 17)
       × (tried (takesUpTo 56 ++ (add 0 1 56 ∷ [])) ≡ replicate 56 0 ++ (15 ∷ []))
+      × (rejection twoIssues (add 0 1 nextIssue) ≡ 15)
+      × (tried (takesUpTo 55 ++ (add 0 1 nextIssue ∷ add 0 1 rivalIssue ∷ [])) ≡ replicate 56 0 ++ (23 ∷ []))
+      × (tried (add 0 1 nextIssue ∷ add 0 1 laterIssue ∷ []) ≡ 0 ∷ 0 ∷ [])
+      × (rejection borrowed (add 1 1 otherIssue) ≡ 0)
+      × (tried (add 0 1 nextIssue ∷ add 0 1 unmarked ∷ []) ≡ 0 ∷ 0 ∷ [])
   -- "adopt 10, 11, 14, 12, 13"
   pub adopts : (tried (adopt 0 2 5 ∷ []) ≡ 10 ∷ [])
       × (tried (adopt 0 1 5 ∷ []) ≡ 11 ∷ [])
@@ -175,8 +190,8 @@ pub record KindOrders : Type 0 where
   pub installs : (tried (install 1 2 5 0 ∷ []) ≡ 10 ∷ [])
       × (tried (install 1 1 5 0 ∷ []) ≡ 11 ∷ [])
       × (tried (add 0 1 laterIssue ∷ install 1 1 0 0 ∷ []) ≡ 0 ∷ 20 ∷ [])
-      × (tried (twoIssues ++ (install 1 1 0 0 ∷ install 1 1 0 1 ∷ [])) ≡ replicate 5 0 ++ (21 ∷ []))
-      × (tried (twoIssues ++ (install 1 1 0 1 ∷ [])) ≡ replicate 4 0 ++ (22 ∷ []))
+      × (answersFrom twoIssues (install 1 1 0 0 ∷ install 1 1 0 1 ∷ []) ≡ 0 ∷ 21 ∷ [])
+      × (rejection twoIssues (install 1 1 0 1) ≡ 22)
   -- "inherit 10, 11, 12, 13"
   pub inherits : (tried (inherit 1 2 9 9 ∷ []) ≡ 10 ∷ [])
       × (tried (replaced ++ (inherit 1 2 9 3 ∷ [])) ≡ replicate 8 0 ++ (11 ∷ []))

@@ -41,3 +41,9 @@ unfoldable pub stateAt : List ℕ → List Moment → ℕ → List ℕ
 stateAt w ms zero = w
 stateAt w [] (suc n) = w
 stateAt w (m ∷ ms) (suc n) = stateAt (m .state) ms n
+
+-- the answer of the step that is tried at moment n, 0 where none is
+unfoldable pub answerAt : List Moment → ℕ → ℕ
+answerAt [] n = 0
+answerAt (m ∷ ms) zero = m .answer
+answerAt (m ∷ ms) (suc n) = answerAt ms n

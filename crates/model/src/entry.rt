@@ -7,7 +7,7 @@ const ISSUE: u64 = 4294967296;
 
 const INDEX: u64 = 16777216;
 
-const SHARD: u64 = 1048576;
+pub const SHARD: u64 = 1048576;
 
 const ORDERER: u64 = 65536;
 

@@ -3,13 +3,13 @@
 use Prim.Native.Nat.{ℕ, _+_, _≤_, _<_}
 use native.Mathlib.Omega.{arith}
 use mathlib.Core.Path.{_≡_, refl, sym, ap, subst, _∙_}
-use mathlib.Core.Bool.{Bool, true, false, not}
-use mathlib.Core.List.{List}
+use mathlib.Core.Bool.{Bool, true, false, cond, not}
+use mathlib.Core.List.{List, [], _∷_, _++_}
+use lib.Dec.{ltb}
 use lib.ListN.{length, getD, set}
 use borrow.Author.Tests.{lt-ltb, le-ltb, eq-eqb, ne-eqb, not-true, not-false}
 use Rattle.model.specs.declared.kind.Kind.the-variants.{Add}
-use Rattle.model.specs.Tests.{contains}
-use Rattle.model.specs.Checks.{firstOf}
+use Rattle.model.specs.Checks.{Check, firstOf, _orElse_}
 use Rattle.model.specs.Kinds.{isKept, isUnknown, namesHost}
 use Rattle.model.specs.Rules.{Known}
 use Rattle.model.specs.Replicas.{replicaWords}
@@ -17,6 +17,7 @@ use Rattle.model.specs.Layout.{shardsOf, isInstalled, orderer, part, replicaAt}
 use Rattle.model.specs.Configuration.{configuration}
 use Rattle.model.specs.Steps.{areNumbers, kindChecks, kindEffect}
 use Rattle.model.specs.Add.{ordererPlace, ordererReplica, mayIssue, addChecks, addEffect}
+use Rattle.model.proofs.Checks.{AllPass, passed, first-before, first-after}
 use Rattle.model.proofs.Rules.{numbers-tell}
 use Rattle.lookup.specs.declared.Seat.{Seat}
 use Rattle.lookup.specs.Ready.{ReadyHost, Placed, HoldsReplica}
@@ -27,7 +28,7 @@ use Rattle.lookup.proofs.Words.{length-word}
 use Rattle.lookup.proofs.Seats.{At, at-found, words-at}
 use Rattle.lookup.proofs.Orderers.{ordered, orderer-host, orderer-replica}
 use Rattle.lookup.proofs.KindAnswers.{in-range, rejects, accepts}
-use Rattle.replica_steps.specs.Adds.{FormedEntry, ReadyAdd}
+use Rattle.replica_steps.specs.Adds.{FormedEntry, ReadyAdd, heldChecks}
 use Rattle.replica_steps.proofs.AddStores.{store-added}
 
 pub known : Known Add
@@ -91,34 +92,44 @@ module _ {w : List ℕ} {n z j o : ℕ} (p : ReadyAdd w n z j o) (e d : ℕ) {b 
             (simp (at .there, replica-is, active-word, eq-eqb _ _ active, sym g ∙ not-true t m))
             (λ q. omega arith)
 
-        -- u is the test of the history
-        module _ (may : not t ≡ false) {u : Bool} (f : u ≡ contains e (replicaAt w (r .place) .history)) where
-          stands : {v : Bool} → u ≡ v → contains e (ordererReplica w z j .history) ≡ v
-          stands q = rw replica-is (sym f ∙ q)
+        -- u is what the history tells of the entry
+        module _ (may : not t ≡ false) {u : ℕ} (f : u ≡ firstOf (heldChecks e (replicaAt w (r .place) .history))) where
+          -- the checks of the history are left: those of its entries, and that of its length
+          held : List Check
+          held = heldChecks e (replicaAt w (r .place) .history)
 
-          pub twice : u ≡ true → (15 ≡ kindAnswer Add w z j e d) × (w ≡ kindAfter Add w z j e d)
-          unfolding kindChecks addChecks firstOf
-          twice q =
-              rejects Add (p .kind) e d test x
-              (rw (stands q, at .there, replica-is, active-word w (r .place), eq-eqb _ _ active, sym g ∙ not-false t may))
-              (λ o. omega arith)
+          room : List Check
+          room = ltb (length (replicaAt w (r .place) .history)) 56 orElse 16 ∷ []
 
-          module _ (fresh : u ≡ false) where
-            long : length (ordererReplica w z j .history) ≡ getD w (r .place + 1) 0
-            long = rw replica-is (length-word w (r .place) words)
+          are-left : firstOf (addChecks w z j e) ≡ firstOf (held ++ room)
+          unfolding addChecks heldChecks held room firstOf
+          are-left = rw (at .there, replica-is, active-word w (r .place), eq-eqb _ _ active, sym g ∙ not-false t may)
+
+          pub against : (u ≡ 0 → ⊥) → (u ≡ kindAnswer Add w z j e d) × (w ≡ kindAfter Add w z j e d)
+          unfolding kindChecks held
+          against m =
+              rejects Add (p .kind) e d test x (f ∙ sym (first-before held room (λ q. m (f ∙ q))) ∙ sym are-left) m
+
+          module _ (free : u ≡ 0) where
+            passes : AllPass held
+            unfolding held heldChecks
+            passes = passed held refl (sym f ∙ free)
+
+            long : length (replicaAt w (r .place) .history) ≡ getD w (r .place + 1) 0
+            long = length-word w (r .place) words
+
+            left : firstOf (addChecks w z j e) ≡ cond (ltb (getD w (r .place + 1) 0) 56) 0 16
+            unfolding room firstOf
+            left = are-left ∙ first-after held room passes ∙ rw long
 
             pub full : 56 ≤ getD w (r .place + 1) 0 → (16 ≡ kindAnswer Add w z j e d) × (w ≡ kindAfter Add w z j e d)
-            unfolding kindChecks addChecks firstOf
-            full q =
-                rejects Add (p .kind) e d test x
-                (rw (stands fresh, long, le-ltb _ _ q, at .there, replica-is, active-word w (r .place), eq-eqb _ _ active, sym g ∙ not-false t may))
-                (λ o. omega arith)
+            unfolding kindChecks
+            full q = rejects Add (p .kind) e d test x (rw (left, le-ltb _ _ q)) (λ o. omega arith)
 
             pub done : getD w (r .place + 1) 0 < 56 → (0 ≡ kindAnswer Add w z j e d)
                 × (set (set w (r .place + 8 + getD w (r .place + 1) 0) e) (r .place + 1) (getD w (r .place + 1) 0 + 1) ≡ kindAfter Add w z j e d)
-            unfolding kindChecks kindEffect addChecks addEffect ordererPlace configuration firstOf
+            unfolding kindChecks kindEffect addEffect ordererPlace configuration
             done q =
-                accepts Add (p .kind) e d test x
-                (rw (stands fresh, long, lt-ltb _ _ q, at .there, replica-is, active-word w (r .place), eq-eqb _ _ active, sym g ∙ not-false t may))
+                accepts Add (p .kind) e d test x (rw (left, lt-ltb _ _ q))
                 (store-added w (r .place) e (getD w (r .place + 1) 0) (replicaAt w (r .place)) words (length-word w (r .place) words) q
                 ∙ rw (at .place-is, replica-is))

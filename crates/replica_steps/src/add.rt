@@ -1,5 +1,5 @@
 // Kind 1, add: an entry goes last in the orderer's history.
-use crate::entries::holds;
+use crate::entries::conflict_at;
 use arguments::are_numbers;
 use model::entry;
 use model::kind::Kind;
@@ -25,7 +25,7 @@ fn may_issue(state: &[u64], z: usize, e: u64) -> bool
     state[shard * SHARD_WORDS] == z as u64
 }
 
-// Adds an entry where its orderer acts: 0 and the entry added, or the rejection (10, 12, 17, 15, 16) and the state as it was.
+// Adds an entry where its orderer acts: 0 and the entry added, or the rejection (10, 12, 17, 15, 23, 16) and the state as it was.
 pub fn add(
     state: &mut [u64],
     shards: usize,
@@ -53,8 +53,9 @@ pub fn add(
     if !may_issue(state, z, e) {
         return 17;
     }
-    if holds(state, p, e) {
-        return 15;
+    let held = conflict_at(state, p, e);
+    if held != 0 {
+        return held;
     }
     let len = state[p + LENGTH];
     if MOST_ENTRIES <= len {

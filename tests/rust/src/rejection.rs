@@ -3,7 +3,7 @@
 use std::error::Error;
 use std::fmt;
 
-/// Why a call was rejected; the discriminant is the number that document 01 gives it.
+/// Why a call was rejected; the discriminant is the number that document 01 or 02 gives it.
 #[derive(Clone, Copy, Debug, PartialEq, Eq, Hash)]
 #[repr(u8)]
 pub enum Rejection {
@@ -51,11 +51,13 @@ pub enum Rejection {
     NotNextIndex = 21,
     /// An earlier issue in the history has the same shard and index.
     EarlierIssue = 22,
+    /// Another issue in the history has the same shard and index.
+    IndexIssued = 23,
 }
 
 impl Rejection {
     /// All rejections, in the order of their numbers.
-    pub const ALL: [Rejection; 22] = [
+    pub const ALL: [Rejection; 23] = [
         Rejection::StateLength,
         Rejection::Plan,
         Rejection::KindKept,
@@ -78,9 +80,10 @@ impl Rejection {
         Rejection::NoStableIssue,
         Rejection::NotNextIndex,
         Rejection::EarlierIssue,
+        Rejection::IndexIssued,
     ];
 
-    /// Document 01's number, 1 to 22.
+    /// Its number, 1 to 23.
     pub const fn number(self) -> u64 {
         self as u64
     }

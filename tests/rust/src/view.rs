@@ -113,6 +113,11 @@ pub fn issue(index: u64, shard: u64, orderer: u64, members: u64) -> u64 {
     (1 << 32) + (index << 24) + (shard << 20) + (orderer << 16) + members
 }
 
+/// The shard and index that a proper entry is an issue for, if it is one.
+pub fn issued_for(entry: u64) -> Option<(u64, u64)> {
+    (entry >= 1 << 32).then_some((entry >> 20 & 0xf, entry >> 24 & 0xff))
+}
+
 /// Whether a proper entry is an issue for a shard and index.
 pub fn is_issue_for(entry: u64, shard: u64, index: u64) -> bool {
     entry >> 20 == (1 << 12) + (index << 4) + shard

@@ -31,8 +31,9 @@ fn one_run(seed: u64, run: u64, coverage: &mut Coverage) {
 }
 
 fn assert_complete(coverage: &Coverage) {
-    coverage.assert_kinds();
+    coverage.assert_kinds(&[]);
     assert!(coverage.capped >= 100, "adopt's cap was hardly met\n{coverage}");
-    assert!(coverage.kinds[5][22] >= 100, "hardly any rival issue\n{coverage}");
+    assert!(coverage.kinds[1][23] >= 100, "hardly any rival issue added\n{coverage}");
+    assert!(coverage.kinds[5][22] >= 100, "hardly any rival issue installed\n{coverage}");
     assert!(coverage.unlike >= 100, "hardly any unlike histories\n{coverage}");
 }

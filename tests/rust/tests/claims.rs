@@ -64,6 +64,11 @@ fn changed_words() {
     };
     assert_eq!(verdict(unlike), Err(Violation::Disagrees), "in another replica");
     assert_eq!(verdict(|words| words[2] = 0b0101), Err(Violation::Vanished));
+    let two_issues = |words: &mut [u64]| {
+        words[65] = 4;
+        words[74..76].copy_from_slice(&[issue(2, 1, 4, 1 << 4), issue(2, 1, 5, 1 << 5)]);
+    };
+    assert_eq!(verdict(two_issues), Err(Violation::SecondIssue), "for one shard and index");
     let installed = |words: &mut [u64]| (words[1], words[3], words[11]) = (2, 1, 0);
     assert_eq!(verdict(installed), Err(Violation::NotFirstIssue), "nobody issued it");
 }
@@ -74,6 +79,14 @@ fn changed_by_a_rejection() {
     words[66] = 2;
     let verdict = claims.after_step(Step::learn(0, 1, 0, 2), 18, &words);
     assert_eq!(verdict, Err(Violation::ChangedByRejection));
+}
+
+/// No step of a run meets an earlier issue for its shard and index.
+#[test]
+fn rejected_by_an_earlier_issue() {
+    let (words, mut claims) = two_takes();
+    let verdict = claims.after_step(Step::install(1, 1, 0, 0), 22, &words);
+    assert_eq!(verdict, Err(Violation::EarlierIssue));
 }
 
 #[test]

@@ -1,6 +1,6 @@
 //! Random runs from setup: plain against proved, call by call, with the claims of every moment.
 
-use penkwadar_tests::testing::coverage::Coverage;
+use penkwadar_tests::testing::coverage::{Coverage, NEVER_FROM_SETUP};
 use penkwadar_tests::testing::driver::Driver;
 use penkwadar_tests::testing::random::Random;
 use penkwadar_tests::testing::settings::{self, Note};
@@ -36,8 +36,8 @@ fn one_run(seed: u64, run: u64, coverage: &mut Coverage) {
 }
 
 fn assert_complete(coverage: &Coverage) {
-    coverage.assert_kinds();
-    coverage.assert_answers();
+    coverage.assert_kinds(&[NEVER_FROM_SETUP]);
+    coverage.assert_answers(&[NEVER_FROM_SETUP]);
     let all = |counts: &[u64]| counts.iter().all(|&count| count > 0);
     assert!(all(&coverage.stops), "a way to stop is missing\n{coverage}");
     assert!(all(&coverage.shards[2..]), "a number of shards is missing\n{coverage}");

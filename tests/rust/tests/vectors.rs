@@ -35,7 +35,7 @@ fn proved_csvs() {
 
 fn steps<I: Interface>() {
     let vectors = step_vectors();
-    assert!(vectors.len() >= 1_500, "only {} vectors", vectors.len());
+    assert!(vectors.len() >= 1_900, "only {} vectors", vectors.len());
     for (number, mut vector) in (1..).zip(vectors) {
         let answer = I::step(&mut vector.words, vector.step);
         assert_eq!(answer, vector.answer, "answer of vector {number}");
@@ -45,7 +45,7 @@ fn steps<I: Interface>() {
 
 fn programs<I: Interface>() {
     let vectors = program_vectors();
-    assert!(vectors.len() >= 143, "only {} vectors", vectors.len());
+    assert!(vectors.len() >= 175, "only {} vectors", vectors.len());
     for vector in vectors {
         let (mut out, mut count) = (vec![0xee; 50_000], [7]);
         let answer = I::transcript(&vector.input, &mut out, &mut count);

@@ -12,6 +12,9 @@ const PLAN: [u64; 6] = [1, 0b0011, 0, 0, 0b1100, 2];
 /// Index 2 of shard 1: hosts 3 and 5, orderer 3.
 const SUCCESSOR: u64 = 4_329_766_952;
 
+/// The same index and hosts, orderer 5.
+const RIVAL: u64 = SUCCESSOR + (2 << 16);
+
 fn state() -> State {
     State::setup(&PLAN).expect("the program's plan")
 }
@@ -29,7 +32,7 @@ fn last_of(steps: &[Step]) -> Result<(), Rejection> {
 #[test]
 fn edge_cases_of_steps() {
     let seven = Step::add(0, 1, 7);
-    let cases: [(&[Step], Result<(), Rejection>); 11] = [
+    let cases: [(&[Step], Result<(), Rejection>); 15] = [
         (&[seven, seven], Err(Rejection::EntryHeld)),
         (&[seven, Step::learn(0, 1, 0, 1)], Err(Rejection::NotAlike)),
         (&[Step::learn(0, 1, 0, 0)], Err(Rejection::NotAboveStable)),
@@ -37,6 +40,10 @@ fn edge_cases_of_steps() {
         (&[Step::adopt(0, 1, 0)], Err(Rejection::ByOrderer)),
         (&[Step::wedge(0, 1, 0), Step::adopt(0, 1, 0)], Err(Rejection::ByOrderer)),
         (&[Step::add(0, 1, SUCCESSOR)], Ok(())),
+        (&[Step::add(0, 1, SUCCESSOR), Step::add(0, 1, SUCCESSOR)], Err(Rejection::EntryHeld)),
+        (&[Step::add(0, 1, SUCCESSOR), Step::add(0, 1, RIVAL)], Err(Rejection::IndexIssued)),
+        (&[Step::add(0, 1, SUCCESSOR), Step::add(0, 1, issue(3, 1, 3, 8))], Ok(())),
+        (&[Step::add(0, 1, SUCCESSOR), Step::add(0, 1, SUCCESSOR - (1 << 32))], Ok(())),
         (&[Step::add(1, 1, SUCCESSOR)], Err(Rejection::OtherSequencer)),
         (&[Step::add(0, 1, SUCCESSOR), Step::install(1, 1, 0, 0)], Err(Rejection::NoStableIssue)),
         (&[Step::add(0, 1, issue(2, 2, 3, 8))], Err(Rejection::Range)),
@@ -56,6 +63,20 @@ fn full_history() {
     }
     assert_eq!(state.step(Step::add(0, 1, 57)), Err(Rejection::HistoryFull));
     assert_eq!(state.step(Step::add(0, 1, 56)), Err(Rejection::EntryHeld));
+    assert_eq!(state.step(Step::add(0, 1, SUCCESSOR)), Err(Rejection::HistoryFull));
+}
+
+/// A full history that holds an issue rejects another one for its index as that, and not as full.
+#[test]
+fn full_history_with_an_issue() {
+    let mut state = state();
+    assert_eq!(state.step(Step::add(0, 1, SUCCESSOR)), Ok(()));
+    for take in 1..=55 {
+        assert_eq!(state.step(Step::add(0, 1, take)), Ok(()), "take {take}");
+    }
+    assert_eq!(state.step(Step::add(0, 1, RIVAL)), Err(Rejection::IndexIssued));
+    assert_eq!(state.step(Step::add(0, 1, SUCCESSOR)), Err(Rejection::EntryHeld));
+    assert_eq!(state.step(Step::add(0, 1, issue(3, 1, 3, 8))), Err(Rejection::HistoryFull));
 }
 
 /// One configuration follows another: added, adopted, learned, installed, inherited.
@@ -197,7 +218,7 @@ fn numbers_of_rejections() {
         assert_eq!(rejection.number(), number);
         assert_eq!(Rejection::from_number(number), Some(rejection));
     }
-    assert_eq!((Rejection::from_number(0), Rejection::from_number(23)), (None, None));
-    let text = Rejection::EarlierIssue.to_string();
-    assert_eq!(text, "rejection 22: EarlierIssue");
+    assert_eq!((Rejection::from_number(0), Rejection::from_number(24)), (None, None));
+    let text = Rejection::IndexIssued.to_string();
+    assert_eq!(text, "rejection 23: IndexIssued");
 }

@@ -3,7 +3,7 @@ use native.Mathlib.Omega.{arith}
 use Rattle.model.specs.declared.kind.Kind.the-variants.{Install}
 use Rattle.lookup.proofs.KindAnswers.{out-of-range}
 use Rattle.install_steps.proofs.InstallReads.{installed-few}
-use Rattle.install_steps.proofs.InstallSteps.{known, named, few, nowhere, not-stable, no-issue, not-next, earlier, next-ready, done}
+use Rattle.install_steps.proofs.InstallSteps.{known, named, few, nowhere, not-stable, no-issue, is-issue, not-next, earlier, next-ready, done}
 use borrow.Author.Needs.{needs}
 use Rattle.install_steps.proofs.install.Statement.{statement}
 use Rattle.install_steps.proofs.install.Tie as tie
@@ -117,23 +117,31 @@ returns-5 c =
     not-next (n .before .before .pre) _ _ (n .are-numbers .ensures) (f .before .before .if1 .left) (f .issuer .ensures .0)
     (i .if2 .left) (l .if3 .left) (m .is-issue-for .ensures) (c .before .before .before .if4 .left) (c .before .before .issue-index .ensures) (c .if5 .taken)
 
-mul-none-names : tie.Need-mul-none-names
-mul-none-names c = search needs
+mul-is-issued : tie.Need-mul-is-issued
+mul-is-issued c = search needs
 
-sub-none-names : tie.Need-sub-none-names
-sub-none-names c = search needs
+sub-is-issued : tie.Need-sub-is-issued
+sub-is-issued c = search needs
 
-part-none-names-start : tie.Need-part-none-names-start
-part-none-names-start c = search needs
+part-is-issued-start : tie.Need-part-is-issued-start
+part-is-issued-start c = search needs
 
-part-none-names-end : tie.Need-part-none-names-end
-part-none-names-end c =
+part-is-issued-end : tie.Need-part-is-issued-end
+part-is-issued-end c =
     let f = c .before .before .before .before .before .before .before .before .before .before .before in
     let n = f .before .before .before in
     omega (arith, few (n .before .before .pre) _ _ (n .are-numbers .ensures) (f .before .before .if1 .left), f .issuer .ensures .1 .fits)
 
-none-names-requires : tie.Need-none-names-requires
-none-names-requires c κs = search needs
+is-issued-requires : tie.Need-is-issued-requires
+is-issued-requires c κs =
+    let x = c .before .before .before .before in
+    let m = x .before .before in
+    let l = m .before .before in
+    let i = l .before .before in
+    let f = i .before .before in
+    let n = f .before .before .before in
+    is-issue (n .before .before .pre) _ _ (n .are-numbers .ensures) (f .before .before .if1 .left) (f .issuer .ensures .0)
+    (i .if2 .left) (l .if3 .left) (m .is-issue-for .ensures) (x .before .if4 .left)
 
 same-length-5 : tie.Need-same-length-5
 same-length-5 c = search needs
@@ -148,7 +156,7 @@ returns-6 c =
     let n = f .before .before .before in
     earlier (n .before .before .pre) _ _ (n .are-numbers .ensures) (f .before .before .if1 .left) (f .issuer .ensures .0)
     (i .if2 .left) (l .if3 .left) (m .is-issue-for .ensures) (x .before .if4 .left) (x .issue-index .ensures) (c .before .before .before .before .if5 .left)
-    (f .issuer .ensures .1) (c .before .none-names .ensures) (c .if6 .taken)
+    (f .issuer .ensures .1) (c .before .is-issued .ensures) (c .if6 .taken)
 
 issue-members-requires : tie.Need-issue-members-requires
 issue-members-requires c κs = search needs
@@ -167,7 +175,7 @@ install-next-requires c κs =
     let n = f .before .before .before in
     next-ready (n .before .before .pre) _ _ (n .are-numbers .ensures) (f .before .before .if1 .left) (f .issuer .ensures .0)
     (i .if2 .left) (l .if3 .left) (m .is-issue-for .ensures) (x .before .if4 .left) (x .issue-index .ensures) (u .before .before .before .if5 .left)
-    (f .issuer .ensures .1) (u .none-names .ensures) (c .before .before .before .if6 .left) (c .before .issue-members .ensures) (c .issue-orderer .ensures)
+    (f .issuer .ensures .1) (u .is-issued .ensures) (c .before .before .before .if6 .left) (c .before .issue-members .ensures) (c .issue-orderer .ensures)
 
 same-length-6 : tie.Need-same-length-6
 same-length-6 c = search needs
@@ -184,7 +192,7 @@ returns-7 c =
     let n = f .before .before .before in
     done (n .before .before .pre) _ _ (n .are-numbers .ensures) (f .before .before .if1 .left) (f .issuer .ensures .0)
     (i .if2 .left) (l .if3 .left) (m .is-issue-for .ensures) (x .before .if4 .left) (x .issue-index .ensures) (u .before .before .before .if5 .left)
-    (f .issuer .ensures .1) (u .none-names .ensures) (d .before .before .before .before .if6 .left) (d .before .before .issue-members .ensures)
+    (f .issuer .ensures .1) (u .is-issued .ensures) (d .before .before .before .before .if6 .left) (d .before .before .issue-members .ensures)
     (d .before .issue-orderer .ensures) (d .install-next .ensures)
 
 pub install-spec : {M : Type 1} → statement M
@@ -216,11 +224,11 @@ install-spec =
     add-if5-2
     same-length-4
     returns-5
-    mul-none-names
-    sub-none-names
-    part-none-names-start
-    part-none-names-end
-    none-names-requires
+    mul-is-issued
+    sub-is-issued
+    part-is-issued-start
+    part-is-issued-end
+    is-issued-requires
     same-length-5
     returns-6
     issue-members-requires

@@ -50,6 +50,19 @@ fn adds(shards: u64) -> Steps {
     Steps::new(installed(shards), steps.collect())
 }
 
+/// One issue for each index from 2 on goes to a history of forty takes, in every configuration.
+fn issue_adds(shards: u64) -> Steps {
+    let (mut words, shard) = (installed(shards), shards - 1);
+    let block = &mut words[shard as usize * SHARD_WORDS + 64..][..2_048];
+    for replica in block.chunks_exact_mut(256) {
+        replica[1] = 40;
+        (1..).zip(&mut replica[8..48]).for_each(|(number, entry)| *entry = number * 1_000_003);
+    }
+    let add = |index, next| Step::add(shard, index, issue(next, shard - 1, 4, 0b1111_0000));
+    let steps = (1..=8).flat_map(|index| (2..=8).map(move |next| add(index, next)));
+    Steps::new(words, steps.collect())
+}
+
 /// Three hosts adopt a full history, in every configuration, ten times.
 fn adopts(random: &mut Random, shards: u64) -> Steps {
     let once =
@@ -140,10 +153,11 @@ impl AsLog {
     }
 }
 
-fn cases(shards: u64) -> [(&'static str, Steps); 6] {
+fn cases(shards: u64) -> [(&'static str, Steps); 7] {
     let mut random = Random::new(2);
     [
         ("add, empty to 40 entries", adds(shards)),
+        ("add, an issue after 40 takes", issue_adds(shards)),
         ("adopt, 56 entries", adopts(&mut random, shards)),
         ("learn, 1 to 56 entries, 4 replicas", learns(&mut random, shards)),
         ("wedge", wedges(&mut random, shards)),

@@ -5,13 +5,15 @@
 //! - the shard's reference shard can follow: it accepts entries that are offered, none twice, and its history is the
 //!   shard's stable history at every moment;
 //! - no stable prefix shrinks, and no replica vanishes;
-//! - every configuration after the first is the first issue for its shard and index in its sequencer's stable history.
+//! - every configuration after the first is the first issue for its shard and index in its sequencer's stable history;
+//! - no history holds two issues for one shard and index, and no step is rejected with 22.
 
 mod reference;
 mod violation;
 
+use crate::rejection::Rejection;
 use crate::step::Step;
-use crate::view::{Replica, View, is_issue_for, issue};
+use crate::view::{Replica, View, is_issue_for, issue, issued_for};
 use reference::Reference;
 pub use violation::Violation;
 
@@ -48,9 +50,13 @@ impl Claims {
         if answer != 0 && !changed.is_empty() {
             return Err(Violation::ChangedByRejection);
         }
+        if answer == Rejection::EarlierIssue.number() {
+            return Err(Violation::EarlierIssue);
+        }
         let now = View::new(words);
         for &shard in &changed {
             keeps_replicas(View::new(&self.words), now, shard)?;
+            issues_once(View::new(&self.words), now, shard)?;
             self.follow(now, shard)?;
             self.remember(now, shard);
         }
@@ -113,6 +119,23 @@ fn keeps_replicas(before: View, now: View, shard: u64) -> Result<(), Violation> 
         }
     }
     Ok(())
+}
+
+/// No history that changed holds two issues for one shard and index.
+fn issues_once(before: View, now: View, shard: u64) -> Result<(), Violation> {
+    for new in now.all_replicas(shard) {
+        let old = before.replica(shard, new.index, new.host);
+        let changed = old.is_none_or(|old| old.history() != new.history());
+        if changed && has_second_issue(new.history()) {
+            return Err(Violation::SecondIssue);
+        }
+    }
+    Ok(())
+}
+
+fn has_second_issue(history: &[u64]) -> bool {
+    let issued: Vec<(u64, u64)> = history.iter().filter_map(|&entry| issued_for(entry)).collect();
+    (1..issued.len()).any(|place| issued[..place].contains(&issued[place]))
 }
 
 /// Of equally long stable prefixes the lowest index's, then the lowest replica's.

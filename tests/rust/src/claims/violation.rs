@@ -18,4 +18,8 @@ pub enum Violation {
     Twice,
     /// A configuration is not the first issue for its shard and index.
     NotFirstIssue,
+    /// A history holds two issues for one shard and index.
+    SecondIssue,
+    /// A step was rejected because an earlier issue has its shard and index (22).
+    EarlierIssue,
 }

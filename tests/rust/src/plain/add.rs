@@ -30,6 +30,9 @@ fn append(replica: &mut Replica, entry: u64) -> Result<(), Rejection> {
     if history.contains(&entry) {
         return Err(Rejection::EntryHeld);
     }
+    if Issue::of(entry).is_some_and(|issue| history.iter().any(|&held| issue.rivals(held))) {
+        return Err(Rejection::IndexIssued);
+    }
     if length == HISTORY {
         return Err(Rejection::HistoryFull);
     }

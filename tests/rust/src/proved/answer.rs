@@ -3,7 +3,7 @@
 use crate::rejection::Rejection;
 use crate::report::{Report, Stop};
 
-/// The `Result` of an answer's number. The header gives no number above 22.
+/// The `Result` of an answer's number. The header gives no number above 23.
 pub fn result(answer: u64) -> Result<(), Rejection> {
     match answer {
         0 => Ok(()),

@@ -8,7 +8,7 @@ use crate::view::{HISTORY, View};
 /// The rejections that a kind of step can get on a state of the right length and form.
 pub const REJECTIONS: [&[u64]; 7] = [
     &[3, 4],
-    &[7, 10, 12, 15, 16, 17],
+    &[7, 10, 12, 15, 16, 17, 23],
     &[7, 10, 11, 12, 13, 14],
     &[7, 10, 11, 12, 18, 19],
     &[7, 10, 11, 12],
@@ -16,14 +16,20 @@ pub const REJECTIONS: [&[u64]; 7] = [
     &[7, 10, 11, 12, 13],
 ];
 
+/// The rejection that no step of a run from setup gets.
+pub const NEVER_FROM_SETUP: u64 = 22;
+
+/// Answers are below this.
+const ANSWERS: usize = 24;
+
 #[derive(Default)]
 pub struct Coverage {
     /// Steps tried, singly and in replays.
     pub steps: u64,
     /// Answers by kind; kind 0 stands for all that are no kind.
-    pub kinds: [[u64; 23]; 7],
+    pub kinds: [[u64; ANSWERS]; 7],
     /// Answers of all calls.
-    pub answers: [u64; 23],
+    pub answers: [u64; ANSWERS],
     /// Replays by how they stopped: ended, spent, damaged.
     pub stops: [u64; 3],
     /// Steps by the number of shards.
@@ -72,21 +78,23 @@ impl Coverage {
         }
     }
 
-    /// Insists that every kind was accepted and got each of its rejections, and no others.
-    pub fn assert_kinds(&self) {
-        for (kind, allowed) in REJECTIONS.iter().enumerate() {
-            for (answer, &count) in self.kinds[kind].iter().enumerate() {
-                let can = allowed.contains(&(answer as u64)) || answer == 0 && kind > 0;
+    /// Insists that every kind was accepted and got each of its rejections but those left out, and no others.
+    pub fn assert_kinds(&self, without: &[u64]) {
+        for (kind, rejections) in REJECTIONS.iter().enumerate() {
+            for (answer, &count) in (0..).zip(&self.kinds[kind]) {
+                let known = rejections.contains(&answer) || answer == 0 && kind > 0;
+                let can = known && !without.contains(&answer);
                 assert!(count > 0 || !can, "kind {kind} never got {answer}\n{self}");
                 assert!(count == 0 || can, "kind {kind} got {answer}\n{self}");
             }
         }
     }
 
-    /// Insists that all rejections occurred.
-    pub fn assert_answers(&self) {
-        for (answer, &count) in self.answers.iter().enumerate() {
-            assert!(count > 0, "no call got {answer}\n{self}");
+    /// Insists that all rejections occurred but those left out, and these not.
+    pub fn assert_answers(&self, without: &[u64]) {
+        for (answer, &count) in (0..).zip(&self.answers) {
+            let left_out = without.contains(&answer);
+            assert!((count == 0) == left_out, "{count} calls got {answer}\n{self}");
         }
     }
 }
@@ -115,7 +123,7 @@ impl fmt::Display for Coverage {
 }
 
 /// Answers that occurred, each with its count.
-struct Counts<'a>(&'a [u64; 23]);
+struct Counts<'a>(&'a [u64; ANSWERS]);
 
 impl fmt::Display for Counts<'_> {
     fn fmt(&self, f: &mut fmt::Formatter<'_>) -> fmt::Result {

@@ -41,11 +41,12 @@ pub fn step_vectors() -> Vec<StepVector> {
     vectors
 }
 
-/// The logs of `tests/vectors`, in the order of their names.
+/// The logs in the directories of `tests/vectors`, in the order of their names.
 pub fn program_vectors() -> Vec<ProgramVector> {
-    let mut inputs: Vec<PathBuf> = ["program", "own"]
+    let mut inputs: Vec<PathBuf> = files(&root().join("tests/vectors"))
         .into_iter()
-        .flat_map(|kind| files(&root().join("tests/vectors").join(kind)))
+        .filter(|path| path.is_dir())
+        .flat_map(|directory| files(&directory))
         .filter(|path| path.extension().is_some_and(|extension| extension == "in"))
         .collect();
     inputs.sort();

@@ -4,7 +4,7 @@ use crate::claims::Violation;
 use crate::plain;
 use crate::rejection::number_of;
 use crate::step::Step;
-use crate::view::{ACTIVE, PENDING, SHARD_WORDS, View, is_issue_for};
+use crate::view::{ACTIVE, HISTORY, PENDING, SHARD_WORDS, View, is_issue_for};
 
 /// An error that a good engineer makes.
 #[derive(Clone, Copy, Debug, PartialEq, Eq)]
@@ -17,19 +17,22 @@ pub enum Wrong {
     LearnMajority,
     /// Learn skips pending replicas.
     LearnSkipsPending,
-    /// Install takes the newest issue of an index rather than the first.
-    InstallNewest,
+    /// Add takes a second issue for a shard and index.
+    AddRival,
+    /// Install takes an issue that is not stable yet.
+    InstallUnstable,
     /// Inherit from a replica that is still active.
     InheritActive,
 }
 
 impl Wrong {
-    pub const ALL: [Wrong; 6] = [
+    pub const ALL: [Wrong; 7] = [
         Wrong::AdoptLowers,
         Wrong::AdoptPending,
         Wrong::LearnMajority,
         Wrong::LearnSkipsPending,
-        Wrong::InstallNewest,
+        Wrong::AddRival,
+        Wrong::InstallUnstable,
         Wrong::InheritActive,
     ];
 
@@ -37,7 +40,8 @@ impl Wrong {
     pub fn violations(self) -> &'static [Violation] {
         match self {
             Wrong::AdoptLowers | Wrong::AdoptPending => &[Violation::Shrinks],
-            Wrong::InstallNewest => &[Violation::NotFirstIssue],
+            Wrong::AddRival => &[Violation::SecondIssue],
+            Wrong::InstallUnstable => &[Violation::NotFirstIssue],
             Wrong::LearnMajority | Wrong::LearnSkipsPending | Wrong::InheritActive => {
                 &[Violation::Disagrees, Violation::Shrinks, Violation::Twice]
             }
@@ -58,7 +62,8 @@ impl Wrong {
             (Wrong::LearnSkipsPending, 3, 19) => {
                 learn(words, view, step, |alike, pending, size| alike + pending == size)
             }
-            (Wrong::InstallNewest, 5, 0 | 22) => install_newest(words, &before, step, answer),
+            (Wrong::AddRival, 1, 23) => add_rival(words, view, step),
+            (Wrong::InstallUnstable, 5, 20) => install_unstable(words, view, step),
             (Wrong::InheritActive, 6, 13) => inherit_active(words, view, step),
             _ => answer,
         }
@@ -109,22 +114,31 @@ fn learn(
     0
 }
 
-/// Installs the issue at the place, or refuses it where a newer one follows.
-fn install_newest(words: &mut [u64], before: &[u64], step: Step, answer: u64) -> u64 {
-    let view = View::new(before);
-    let [shard, index, host, at] = step.numbers;
-    let sequencer = view.sequencer(shard);
-    let replica = view.replica(sequencer, index, host).expect("a member");
-    let next = view.installed(shard) + 1;
-    let newer = &replica.stable()[at as usize + 1..];
-    if newer.iter().any(|&entry| is_issue_for(entry, shard, next)) {
-        words.copy_from_slice(before);
-        return 22;
+/// Adds the issue where there is room.
+fn add_rival(words: &mut [u64], view: View, step: Step) -> u64 {
+    let [shard, index, entry, _] = step.numbers;
+    let replica = &mut words[place(view, shard, index, view.orderer(shard, index))..][..64];
+    let length = replica[1] as usize;
+    if length == HISTORY {
+        return 16;
     }
-    if answer == 22 {
-        install(words, shard, next, replica.stable()[at as usize]);
-    }
+    replica[8 + length] = entry;
+    replica[1] += 1;
     0
+}
+
+/// Installs what is issued at a place of the history, stable or not.
+fn install_unstable(words: &mut [u64], view: View, step: Step) -> u64 {
+    let [shard, index, host, at] = step.numbers;
+    let replica = view.replica(view.sequencer(shard), index, host).expect("a member");
+    let next = view.installed(shard) + 1;
+    match replica.history().get(at as usize) {
+        Some(&entry) if next <= 8 && is_issue_for(entry, shard, next) => {
+            install(words, shard, next, entry);
+            0
+        }
+        _ => 20,
+    }
 }
 
 fn install(words: &mut [u64], shard: u64, next: u64, issue: u64) {

@@ -3,7 +3,7 @@ use native.Mathlib.Omega.{arith}
 use lib.ListN.{length-set}
 use Rattle.model.specs.declared.kind.Kind.the-variants.{Add}
 use Rattle.lookup.proofs.KindAnswers.{out-of-range}
-use Rattle.replica_steps.proofs.AddSteps.{known, named, proper, nowhere, holds-it, not-active, not-sequencer, twice, full, done}
+use Rattle.replica_steps.proofs.AddSteps.{known, named, proper, nowhere, holds-it, not-active, not-sequencer, against, full, done}
 use borrow.Author.Needs.{needs}
 use Rattle.replica_steps.proofs.add.add.Statement.{statement}
 use Rattle.replica_steps.proofs.add.add.Tie as tie
@@ -62,8 +62,8 @@ returns-4 c =
     not-sequencer (n .before .before .pre) _ _ (n .are-numbers .ensures) (f .before .before .if1 .left) (f .find .ensures .0)
     (i .if2 .left) (a .if3 .left) (m .may-issue .ensures) (c .if4 .taken)
 
-holds-requires : tie.Need-holds-requires
-holds-requires c κs =
+conflict-at-requires : tie.Need-conflict-at-requires
+conflict-at-requires c κs =
     let m = c .before .before in
     let i = m .before .before .before .before in
     let f = i .before .before in
@@ -81,8 +81,8 @@ returns-5 c =
     let i = a .before .before in
     let f = i .before .before in
     let n = f .before .before .before in
-    twice (n .before .before .pre) _ _ (n .are-numbers .ensures) (f .before .before .if1 .left) (f .find .ensures .0)
-    (i .if2 .left) (a .if3 .left) (m .may-issue .ensures) (c .before .before .before .if4 .left) (c .before .holds .ensures) (c .if5 .taken)
+    against (n .before .before .pre) _ _ (n .are-numbers .ensures) (f .before .before .if1 .left) (f .find .ensures .0)
+    (i .if2 .left) (a .if3 .left) (m .may-issue .ensures) (c .before .before .before .if4 .left) (c .before .conflict-at .ensures) (c .if5 .taken)
 
 add-len : tie.Need-add-len
 add-len c = search needs
@@ -105,7 +105,7 @@ returns-6 c =
     let f = i .before .before in
     let n = f .before .before .before in
     full (n .before .before .pre) _ _ (n .are-numbers .ensures) (f .before .before .if1 .left) (f .find .ensures .0)
-    (i .if2 .left) (a .if3 .left) (m .may-issue .ensures) (h .before .before .before .if4 .left) (h .before .holds .ensures) (h .if5 .left)
+    (i .if2 .left) (a .if3 .left) (m .may-issue .ensures) (h .before .before .before .if4 .left) (h .before .conflict-at .ensures) (h .if5 .left)
     (omega (arith, c .if6 .taken))
 
 add-state : tie.Need-add-state
@@ -144,7 +144,7 @@ returns-7 c =
     let f = i .before .before in
     let n = f .before .before .before in
     done (n .before .before .pre) _ _ (n .are-numbers .ensures) (f .before .before .if1 .left) (f .find .ensures .0)
-    (i .if2 .left) (a .if3 .left) (m .may-issue .ensures) (h .before .before .before .if4 .left) (h .before .holds .ensures) (h .if5 .left)
+    (i .if2 .left) (a .if3 .left) (m .may-issue .ensures) (h .before .before .before .if4 .left) (h .before .conflict-at .ensures) (h .if5 .left)
     (omega (arith, c .if6 .left))
 
 pub add-spec : {M : Type 1} → statement M
@@ -163,7 +163,7 @@ add-spec =
     may-issue-requires
     same-length-3
     returns-4
-    holds-requires
+    conflict-at-requires
     same-length-4
     returns-5
     add-len

@@ -5,7 +5,8 @@ use mathlib.Core.Path.{_≡_, refl, _∙_}
 use lib.ListN.{length, drop}
 use borrow.Author.Needs.{needs}
 use Rattle.model.specs.Tests.{contains}
-use Rattle.replica_steps.proofs.Contains.{at-first, at-second, at-third, at-fourth, past-fourth}
+use Rattle.lookup.proofs.Scans.{at-first, at-second, at-third, at-fourth, past-fourth}
+use Rattle.replica_steps.proofs.Contains.{for-entry}
 use Rattle.replica_steps.proofs.entries.has_entry.Statement.{statement}
 use Rattle.replica_steps.proofs.entries.has_entry.Tie as tie
 
@@ -31,7 +32,7 @@ returns : tie.Need-returns Inv-loop μ-loop
 returns c =
     let l = c .before .before .before in
     let h : l .loop .i + 4 ≤ length (l .before .before .args .history .now) = omega arith in
-    at-first _ (l .loop .i) _ h (c .if1 .taken) ∙ l .loop .inv .1
+    at-first (for-entry _) _ (l .loop .i) h (c .if1 .taken) ∙ l .loop .inv .1
 
 add-if2 : tie.Need-add-if2 Inv-loop μ-loop
 add-if2 c = search needs
@@ -46,7 +47,7 @@ returns-2 : tie.Need-returns-2 Inv-loop μ-loop
 returns-2 c =
     let l = c .before .before .before .before .before in
     let h : l .loop .i + 4 ≤ length (l .before .before .args .history .now) = omega arith in
-    at-second _ (l .loop .i) _ h (c .before .before .if1 .left) (c .if2 .taken) ∙ l .loop .inv .1
+    at-second (for-entry _) _ (l .loop .i) h (c .before .before .if1 .left) (c .if2 .taken) ∙ l .loop .inv .1
 
 add-if3 : tie.Need-add-if3 Inv-loop μ-loop
 add-if3 c = search needs
@@ -62,7 +63,7 @@ returns-3 c =
     let b = c .before .before in
     let l = c .before .before .before .before .before .before .before in
     let h : l .loop .i + 4 ≤ length (l .before .before .args .history .now) = omega arith in
-    at-third _ (l .loop .i) _ h (b .before .before .if1 .left) (b .if2 .left) (c .if3 .taken) ∙ l .loop .inv .1
+    at-third (for-entry _) _ (l .loop .i) h (b .before .before .if1 .left) (b .if2 .left) (c .if3 .taken) ∙ l .loop .inv .1
 
 add-if4 : tie.Need-add-if4 Inv-loop μ-loop
 add-if4 c = search needs
@@ -79,7 +80,7 @@ returns-4 c =
     let b = d .before .before in
     let l = c .before .before .before .before .before .before .before .before .before in
     let h : l .loop .i + 4 ≤ length (l .before .before .args .history .now) = omega arith in
-    at-fourth _ (l .loop .i) _ h (b .before .before .if1 .left) (b .if2 .left) (d .if3 .left) (c .if4 .taken) ∙ l .loop .inv .1
+    at-fourth (for-entry _) _ (l .loop .i) h (b .before .before .if1 .left) (b .if2 .left) (d .if3 .left) (c .if4 .taken) ∙ l .loop .inv .1
 
 add-i : tie.Need-add-i Inv-loop μ-loop
 add-i c = search needs
@@ -93,7 +94,7 @@ loop-again c =
     let b = d .before .before in
     let l = c .before .before .before .before .before .before .before .before .before in
     let h : l .loop .i + 4 ≤ length (l .before .before .args .history .now) = omega arith in
-    (search needs, past-fourth _ (l .loop .i) _ h (b .before .before .if1 .left) (b .if2 .left) (d .if3 .left) (c .if4 .left) ∙ l .loop .inv .1)
+    (search needs, past-fourth (for-entry _) _ (l .loop .i) h (b .before .before .if1 .left) (b .if2 .left) (d .if3 .left) (c .if4 .left) ∙ l .loop .inv .1)
 
 has-entry-from-requires : tie.Need-has-entry-from-requires Inv-loop μ-loop
 has-entry-from-requires c κs = search needs

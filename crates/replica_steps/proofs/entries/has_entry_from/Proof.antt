@@ -4,7 +4,8 @@ use mathlib.Core.Path.{_≡_, refl, _∙_}
 use lib.ListN.{length, drop}
 use borrow.Author.Needs.{needs}
 use Rattle.model.specs.Tests.{contains}
-use Rattle.replica_steps.proofs.Contains.{entry-here, entry-next, entry-none}
+use Rattle.lookup.proofs.Scans.{found-here, found-next, found-none}
+use Rattle.replica_steps.proofs.Contains.{for-entry}
 use Rattle.replica_steps.proofs.entries.has_entry_from.Statement.{statement}
 use Rattle.replica_steps.proofs.entries.has_entry_from.Tie as tie
 
@@ -26,7 +27,7 @@ shared-slice-read-if1 c = search needs
 returns : tie.Need-returns Inv-loop μ-loop
 returns c =
     let l = c .before .before .before in
-    entry-here _ (l .loop .i) _ (search needs) (c .if1 .taken) ∙ l .loop .inv .1
+    found-here (for-entry _) _ (l .loop .i) (search needs) (c .if1 .taken) ∙ l .loop .inv .1
 
 add-i : tie.Need-add-i Inv-loop μ-loop
 add-i c = search needs
@@ -37,12 +38,12 @@ loop-less c = search needs
 loop-again : tie.Need-loop-again Inv-loop μ-loop
 loop-again c =
     let l = c .before .before .before in
-    (search needs, entry-next _ (l .loop .i) _ (search needs) (c .if1 .left) ∙ l .loop .inv .1)
+    (search needs, found-next (for-entry _) _ (l .loop .i) (search needs) (c .if1 .left) ∙ l .loop .inv .1)
 
 returns-2 : tie.Need-returns-2 Inv-loop μ-loop
 returns-2 c =
     let l = c .before in
-    entry-none _ (l .loop .i) _ (search needs) ∙ l .loop .inv .1
+    found-none (for-entry _) _ (l .loop .i) (search needs) ∙ l .loop .inv .1
 
 pub has-entry-from-spec : {M : Type 1} → statement M
 has-entry-from-spec =

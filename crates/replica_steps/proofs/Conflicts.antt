@@ -1,0 +1,62 @@
+-- What a history has against an entry, as the code finds it: an issue that stands in the history is one for its own shard and index, so where there is
+-- none for these, there is neither that entry nor a rival.
+-- Assumes nothing.
+use Prim.Native.Nat.{ℕ, suc, _<_}
+use native.Mathlib.Omega.{arith}
+use mathlib.Core.Path.{_≡_, refl, sym, _∙_}
+use mathlib.Core.Bool.{Bool, true, false, true≢false}
+use mathlib.Core.List.{List, [], _∷_}
+use lib.ListN.{length, getD}
+use borrow.Author.Tests.{ne-eqb}
+use Rattle.model.specs.Tests.{allOf, contains}
+use Rattle.model.specs.Checks.{firstOf}
+use Rattle.model.specs.Entries.{isIssue, issueShard, issueIndex, rivals}
+use Rattle.model.specs.Add.{noRival}
+use Rattle.model.proofs.Rivals.{names-own, none-named}
+use Rattle.lookup.specs.Issues.{issuedIn}
+use Rattle.lookup.proofs.IssueScans.{issued-nowhere, nowhere-issued}
+use Rattle.replica_steps.specs.Adds.{heldChecks}
+
+-- an entry that is at no place of a history is not held
+at-no-place : (e : ℕ) (l : List ℕ) → ((q : ℕ) → q < length l → getD l q 0 ≡ e → ⊥) → contains e l ≡ false
+unfolding contains
+at-no-place e [] h = refl
+at-no-place e (x ∷ l) h = rw (ne-eqb x e (h 0 (omega arith))) (at-no-place e l (λ q g. h (suc q) (omega arith)))
+
+-- a history without rivals at its places
+rivals-nowhere : (e : ℕ) (l : List ℕ) → ((q : ℕ) → q < length l → rivals e (getD l q 0) ≡ false) → noRival e l ≡ true
+unfolding noRival allOf
+rivals-nowhere e [] h = refl
+rivals-nowhere e (x ∷ l) h = rw (h 0 (omega arith)) (rivals-nowhere e l (λ q g. h (suc q) (omega arith)))
+
+module _ (e : ℕ) (l : List ℕ) where
+  pub is-held : contains e l ≡ true → 15 ≡ firstOf (heldChecks e l)
+  unfolding heldChecks firstOf
+  is-held c = rw c
+
+  -- an entry that is no issue has no rivals
+  pub take-free : isIssue e ≡ false → contains e l ≡ false → 0 ≡ firstOf (heldChecks e l)
+  unfolding heldChecks firstOf rivals
+  take-free i c = rw (c, rivals-nowhere e l (λ q g. rw i))
+
+  module _ (is : isIssue e ≡ true) where
+    -- an issue with none for its shard and index in the history
+    pub issue-free : issuedIn (issueShard e) (issueIndex e) l ≡ false → 0 ≡ firstOf (heldChecks e l)
+    unfolding heldChecks firstOf rivals
+    issue-free h =
+        let nowhere = issued-nowhere (issueShard e) (issueIndex e) l h in
+        rw (
+          at-no-place e l (λ q g d. true≢false (sym (names-own e is) ∙ (rw d at (nowhere q g)))),
+          rivals-nowhere e l (λ q g. rw (is, nowhere q g)),
+        )
+
+    -- .. and with one that is not itself
+    pub is-rivalled : issuedIn (issueShard e) (issueIndex e) l ≡ true → contains e l ≡ false → 23 ≡ firstOf (heldChecks e l)
+    unfolding heldChecks firstOf
+    is-rivalled h c = rw (c, rivalled (noRival e l) refl)
+      where
+        rivalled : (b : Bool) → noRival e l ≡ b → b ≡ false
+        rivalled false r = refl
+        rivalled true r =
+            absurd (true≢false (sym h ∙ nowhere-issued (issueShard e) (issueIndex e) l
+            (none-named e l c r (issueShard e) (issueIndex e) (names-own e is))))
