@@ -22,11 +22,11 @@ ordererReplica w z j = replicaOf w (configuration w z j) (configuration w z j .o
 unfoldable pub mayIssue : List ℕ → ℕ → ℕ → Bool
 mayIssue w z e = not (isIssue e) || eqb (sequencer w (issueShard e)) z
 
--- A2, "23, issue's index already issued here": passes where no entry of a history is a rival of e
+-- request A2, "23, issue's index already issued here": passes where no entry of a history is a rival of e
 unfoldable pub noRival : ℕ → List ℕ → Bool
 noRival e l = allOf (λ x. not (rivals e x)) l
 
--- "add 10, 12, 17, 15, 16"; A2: 23 "after 15 and before 16"
+-- "add 10, 12, 17, 15, 16"; request A2: 23 "after 15 and before 16"
 unfoldable pub addChecks : List ℕ → ℕ → ℕ → ℕ → List Check
 addChecks w z j e =
     isInstalled w z j orElse 10

@@ -48,7 +48,7 @@ isIssueFor z e = isIssue e && eqb (issueShard e) z
 unfoldable pub names : ℕ → ℕ → ℕ → Bool
 names z i e = isIssueFor z e && eqb (issueIndex e) i
 
--- A2: where e is an issue, x is "an issue for that zone and index with other content"
+-- request A2: where e is an issue, x is "an issue for that zone and index with other content"
 unfoldable pub rivals : ℕ → ℕ → Bool
 rivals e x = isIssue e && names (issueShard e) (issueIndex e) x && not (eqb x e)
 

@@ -1,4 +1,4 @@
--- What a reader has to believe: document 01 as definitions, and the claims that are proved of them.
+-- What a reader has to believe: document 01, and the requests of document 02 that change it (A2), as definitions, and the claims that are proved of them.
 pub mod Tests
 pub mod Checks
 pub mod Kinds
