@@ -18,8 +18,8 @@ use Rattle.lookup.specs.Ready.{Ready, ReadyHost}
 use Rattle.lookup.proofs.Fields.{formed, stable-word}
 use Rattle.lookup.proofs.Seats.{At, words-at}
 use Rattle.lookup.proofs.Words.{length-word, history-words}
-use Rattle.lookup.specs.Issues.{issuedIn}
-use Rattle.lookup.proofs.IssueScans.{none-issued}
+use Rattle.lookup.specs.Searches.{issuedIn}
+use Rattle.lookup.proofs.Searches.{none-issued}
 
 -- ---- head words
 

@@ -23,7 +23,7 @@ use Rattle.model.proofs.WellFormedInstall.{issue-proper, next-index}
 use Rattle.lookup.specs.declared.Seat.{Seat}
 use Rattle.lookup.specs.Ready.{ReadyHost, Placed}
 use Rattle.lookup.specs.Seats.{seatOf}
-use Rattle.lookup.specs.Issues.{issuedIn}
+use Rattle.lookup.specs.Searches.{issuedIn}
 use Rattle.lookup.specs.Kinds.{ReadyKind, kindAnswer, kindAfter}
 use Rattle.lookup.proofs.Fields.{formed}
 use Rattle.lookup.proofs.Seats.{At, at-found, early}

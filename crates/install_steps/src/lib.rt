@@ -1,10 +1,10 @@
 // Kind 5, install: the next configuration of a shard, issued in the history of its sequencer. No entry point: the state is known to be well-formed,
 // and the step's numbers are in range.
+use crate::issues::is_issue_for;
 use crate::next::install_next;
 use arguments::are_numbers;
 use lookup::Seat;
-use lookup::issues::is_issue_for;
-use lookup::issues::is_issued;
+use lookup::entries::is_issued;
 use model::entry;
 use model::kind::Kind;
 use model::layout::ENTRIES;
@@ -17,6 +17,7 @@ ghost use Rattle.lookup.specs.Ready.{ReadyHost, Placed};
 ghost use Rattle.lookup.specs.Seats.{seatOf};
 ghost use Rattle.lookup.specs.Kinds.{ReadyKind, kindAnswer, kindAfter};
 
+mod issues;
 mod next;
 
 // The replica of a host in configuration j of the sequencer of shard z.

@@ -5,6 +5,6 @@ pub mod Words
 pub mod Seats
 pub mod Orderers
 pub mod Stores
-pub mod Scans
-pub mod IssueScans
+pub mod Likes
+pub mod Searches
 pub mod KindAnswers

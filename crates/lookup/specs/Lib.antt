@@ -2,4 +2,4 @@
 pub mod Ready
 pub mod Seats
 pub mod Kinds
-pub mod Issues
+pub mod Searches

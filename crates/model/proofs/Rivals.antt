@@ -5,7 +5,7 @@ use native.Mathlib.Nat.{not-suc-le-zero}
 use native.Mathlib.Omega.{arith}
 use native.Mathlib.Decide.{decLt}
 use mathlib.Core.Path.{_≡_, refl, sym, _∙_}
-use mathlib.Core.Bool.{Bool, true, false, not, _&&_, _||_, true≢false}
+use mathlib.Core.Bool.{Bool, true, false, not, _&&_, true≢false}
 use mathlib.Core.List.{List, [], _∷_, _++_}
 use mathlib.Core.Logic.{_⊎_, inl, inr}
 use lib.Dec.{eqb}
@@ -16,7 +16,7 @@ use Rattle.model.specs.Tests.{contains}
 use Rattle.model.specs.Entries.{isIssue, isIssueFor, issueIndex, issueShard, names, rivals}
 use Rattle.model.specs.Add.{noRival}
 use Rattle.model.specs.Install.{noneBefore}
-use Rattle.model.proofs.Tests.{and-left, and-right}
+use Rattle.model.proofs.Tests.{and-left, and-right, or-right}
 use Rattle.model.proofs.WellFormedParts.{all-at}
 use Rattle.model.proofs.Issues.{none-there}
 use Rattle.model.proofs.Histories.{last-or-before}
@@ -63,11 +63,7 @@ held-nowhere : (e : ℕ) (l : List ℕ) → contains e l ≡ false → (q : ℕ)
 unfolding contains
 held-nowhere e [] h q g d = absurd (not-suc-le-zero g)
 held-nowhere e (x ∷ l) h zero g d = true≢false (rw (eq-eqb x e d) at h)
-held-nowhere e (x ∷ l) h (suc q) g d = held-nowhere e l (go (eqb x e) h) q (omega arith) d
-  where
-    go : (t : Bool) → t || contains e l ≡ false → contains e l ≡ false
-    go true h = absurd (true≢false h)
-    go false h = h
+held-nowhere e (x ∷ l) h (suc q) g d = held-nowhere e l (or-right (eqb x e) (contains e l) h) q (omega arith) d
 
 -- what add has tested: no entry names what the new one names
 pub none-named : (e : ℕ) (l : List ℕ) → contains e l ≡ false → noRival e l ≡ true → (z i : ℕ) → names z i e ≡ true

@@ -43,6 +43,11 @@ all-at f [] i e h = absurd (omega arith)
 all-at f (x ∷ l) zero e h = both (f x) (allOf f l) .0 e .0
 all-at f (x ∷ l) (suc i) e h = all-at f l i (both (f x) (allOf f l) .0 e .1) (omega arith)
 
+pub at-all : (f : ℕ → Bool) (l : List ℕ) → ((i : ℕ) → i < length l → f (getD l i 0) ≡ true) → allOf f l ≡ true
+unfolding allOf
+at-all f [] h = refl
+at-all f (x ∷ l) h = both (f x) (allOf f l) .1 (h 0 (omega arith), at-all f l (λ i g. h (suc i) (omega arith)))
+
 -- ---- a replica
 
 -- a member's replica of configuration j, of Z shards

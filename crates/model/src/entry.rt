@@ -7,9 +7,12 @@ const ISSUE: u64 = 4294967296;
 
 const INDEX: u64 = 16777216;
 
-pub const SHARD: u64 = 1048576;
+const SHARD: u64 = 1048576;
 
 const ORDERER: u64 = 65536;
+
+// The lowest bit of the shard: from it on a word has the mark of an issue, the index and the shard.
+pub const SHARD_BIT: u64 = 20;
 
 // Whether a word is an issue's, of whatever content.
 pub fn is_issue(e: u64) -> bool

@@ -1,20 +1,25 @@
 -- What a history has against an entry, as the code finds it: an issue that stands in the history is one for its own shard and index, so where there is
 -- none for these, there is neither that entry nor a rival.
 -- Assumes nothing.
-use Prim.Native.Nat.{ℕ, suc, _<_}
+use Prim.Native.Nat.{ℕ, suc, _+_, _-_, _<_}
+use native.Mathlib.Nat.{add-sub-cancel-left}
 use native.Mathlib.Omega.{arith}
-use mathlib.Core.Path.{_≡_, refl, sym, _∙_}
-use mathlib.Core.Bool.{Bool, true, false, true≢false}
+use mathlib.Core.Path.{_≡_, refl, sym, ap, _∙_}
+use mathlib.Core.Bool.{Bool, true, false, not, true≢false}
 use mathlib.Core.List.{List, [], _∷_}
-use lib.ListN.{length, getD}
+use lib.ListN.{length, getD, take, drop}
 use borrow.Author.Tests.{ne-eqb}
-use Rattle.model.specs.Tests.{allOf, contains}
+use Rattle.model.specs.Tests.{contains}
 use Rattle.model.specs.Checks.{firstOf}
 use Rattle.model.specs.Entries.{isIssue, issueShard, issueIndex, rivals}
+use Rattle.model.specs.Replicas.{replicaWords}
+use Rattle.model.specs.Layout.{part, replicaAt}
 use Rattle.model.specs.Add.{noRival}
+use Rattle.model.proofs.WellFormedParts.{at-all}
 use Rattle.model.proofs.Rivals.{names-own, none-named}
-use Rattle.lookup.specs.Issues.{issuedIn}
-use Rattle.lookup.proofs.IssueScans.{issued-nowhere, nowhere-issued}
+use Rattle.lookup.specs.Searches.{issuedIn}
+use Rattle.lookup.proofs.Words.{history-words}
+use Rattle.lookup.proofs.Searches.{issued-nowhere, nowhere-issued}
 use Rattle.replica_steps.specs.Adds.{heldChecks}
 
 -- an entry that is at no place of a history is not held
@@ -25,9 +30,8 @@ at-no-place e (x ∷ l) h = rw (ne-eqb x e (h 0 (omega arith))) (at-no-place e l
 
 -- a history without rivals at its places
 rivals-nowhere : (e : ℕ) (l : List ℕ) → ((q : ℕ) → q < length l → rivals e (getD l q 0) ≡ false) → noRival e l ≡ true
-unfolding noRival allOf
-rivals-nowhere e [] h = refl
-rivals-nowhere e (x ∷ l) h = rw (h 0 (omega arith)) (rivals-nowhere e l (λ q g. h (suc q) (omega arith)))
+unfolding noRival
+rivals-nowhere e l h = at-all (λ x. not (rivals e x)) l (λ q g. rw (h q g))
 
 module _ (e : ℕ) (l : List ℕ) where
   pub is-held : contains e l ≡ true → 15 ≡ firstOf (heldChecks e l)
@@ -60,3 +64,11 @@ module _ (e : ℕ) (l : List ℕ) where
         rivalled true r =
             absurd (true≢false (sym h ∙ nowhere-issued (issueShard e) (issueIndex e) l
             (none-named e l c r (issueShard e) (issueIndex e) (names-own e is))))
+
+-- ---- the words of a replica
+
+-- so many words of a replica are looked at as its history has entries, n
+pub in-history : (w : List ℕ) (at n : ℕ) → part w at ≡ replicaWords (replicaAt w at) → n ≡ getD w (at + 1) 0
+    → take (at + 8 + n - (at + 8)) (drop (at + 8) w) ≡ replicaAt w at .history
+in-history w at n p q =
+    rw (history-words w at p, ← q) (ap (λ (k : ℕ). take k (drop (at + 8) w)) (add-sub-cancel-left (at + 8) n))

@@ -1,6 +1,5 @@
 -- Laws that the proofs of these steps share.
 -- Add
-pub mod Contains
 pub mod Conflicts
 pub mod AddStores
 pub mod AddSteps

@@ -17,28 +17,28 @@ returns c =
     let i = c .before in
     issue-free _ _ (sym (i .before .before .is-issue .ensures) ∙ i .before .if1 .taken) (sym (i .is-issued .ensures) ∙ not-true _ (c .if2 .taken))
 
-has-entry-from-requires : tie.Need-has-entry-from-requires
-has-entry-from-requires c κs = search needs
+has-entry-requires : tie.Need-has-entry-requires
+has-entry-requires c κs = search needs
 
 returns-2 : tie.Need-returns-2
-returns-2 c = is-held _ _ (sym (c .before .has-entry-from .ensures) ∙ c .if3 .taken)
+returns-2 c = is-held _ _ (sym (c .before .has-entry .ensures) ∙ c .if3 .taken)
 
 returns-3 : tie.Need-returns-3
 returns-3 c =
     let i = c .before .before .before in
     is-rivalled _ _ (sym (i .before .before .is-issue .ensures) ∙ i .before .if1 .taken)
-    (sym (i .is-issued .ensures) ∙ not-false _ (c .before .before .if2 .left)) (sym (c .before .has-entry-from .ensures) ∙ c .if3 .left)
+    (sym (i .is-issued .ensures) ∙ not-false _ (c .before .before .if2 .left)) (sym (c .before .has-entry .ensures) ∙ c .if3 .left)
 
-has-entry-requires : tie.Need-has-entry-requires
-has-entry-requires c κs = search needs
+has-entry-requires-2 : tie.Need-has-entry-requires-2
+has-entry-requires-2 c κs = search needs
 
 returns-4 : tie.Need-returns-4
-returns-4 c = is-held _ _ (sym (c .before .has-entry .ensures) ∙ c .if4 .taken)
+returns-4 c = is-held _ _ (sym (c .before .has-entry2 .ensures) ∙ c .if4 .taken)
 
 returns-5 : tie.Need-returns-5
 returns-5 c =
     let i = c .before .before in
-    take-free _ _ (sym (i .before .is-issue .ensures) ∙ i .if1 .left) (sym (c .before .has-entry .ensures) ∙ c .if4 .left)
+    take-free _ _ (sym (i .before .is-issue .ensures) ∙ i .if1 .left) (sym (c .before .has-entry2 .ensures) ∙ c .if4 .left)
 
 pub conflict-spec : {M : Type 1} → statement M
 conflict-spec =
@@ -47,9 +47,9 @@ conflict-spec =
     is-issue-requires
     is-issued-requires
     returns
-    has-entry-from-requires
+    has-entry-requires
     returns-2
     returns-3
-    has-entry-requires
+    has-entry-requires-2
     returns-4
     returns-5)

@@ -7,7 +7,7 @@ use borrow.Author.Needs.{needs}
 use Rattle.model.specs.Checks.{firstOf}
 use Rattle.lookup.proofs.Words.{length-few}
 use Rattle.replica_steps.specs.Adds.{heldChecks}
-use Rattle.replica_steps.proofs.Contains.{in-history}
+use Rattle.replica_steps.proofs.Conflicts.{in-history}
 use Rattle.replica_steps.proofs.entries.conflict_at.Statement.{statement}
 use Rattle.replica_steps.proofs.entries.conflict_at.Tie as tie
 

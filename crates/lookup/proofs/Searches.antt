@@ -1,30 +1,22 @@
--- An issue for the shard and the index of another is looked for by what its word has above orderer and members.
+-- What a search by the bits from one on tells: of an entry itself, and of an issue for the shard and the index of another.
 -- Assumes nothing.
 use Prim.Native.Nat.{ℕ, zero, suc, _+_, _*_, _/_, _^_, _<_}
-use native.Mathlib.Nat.{not-suc-le-zero}
+use native.Mathlib.Nat.{div-one, not-suc-le-zero}
 use native.Mathlib.Omega.{arith}
 use mathlib.Core.Path.{_≡_, refl, sym, ap, _∙_}
-use mathlib.Core.Bool.{Bool, true, false, not, _||_, true≢false}
+use mathlib.Core.Bool.{Bool, true, false, not, true≢false}
 use mathlib.Core.List.{List, [], _∷_}
 use lib.ListN.{length, getD}
 use lib.Pow.{shr-shr}
 use lib.Dec.{eqb}
 use borrow.Author.Tests.{eqb-true, eqb-false}
+use Rattle.model.specs.Tests.{contains}
 use Rattle.model.specs.Entries.{isIssue, isIssueFor, issueShard, issueIndex, names}
 use Rattle.model.specs.Install.{noneBefore}
+use Rattle.model.proofs.Tests.{or-left, or-right}
 use Rattle.model.proofs.Issues.{none-before, none-there}
 use Rattle.model.proofs.Rivals.{Named, named, names-own}
-use Rattle.lookup.specs.Issues.{issuedIn}
-use Rattle.lookup.proofs.Scans.{Scan}
-
--- two tests of which neither passes
-or-left : (a b : Bool) → a || b ≡ false → a ≡ false
-or-left true b e = e
-or-left false b e = refl
-
-or-right : (a b : Bool) → a || b ≡ false → b ≡ false
-or-right true b e = absurd (true≢false e)
-or-right false b e = e
+use Rattle.lookup.specs.Searches.{hasLike, issuedIn}
 
 -- ---- one word
 
@@ -51,35 +43,26 @@ module _ (e x : ℕ) (is : isIssue e ≡ true) where
           ∙ sym (name-is (issueShard e) (issueIndex e) e (named (issueShard e) (issueIndex e) e (names-own e is)))))
 
   -- one comparison tells
-  pub name-tells : names (issueShard e) (issueIndex e) x ≡ eqb (x / 1048576) (e / 1048576)
-  name-tells = go (eqb (x / 1048576) (e / 1048576)) refl
+  name-tells : eqb (x / 2 ^ 20) (e / 2 ^ 20) ≡ names (issueShard e) (issueIndex e) x
+  name-tells = go (eqb (x / 2 ^ 20) (e / 2 ^ 20)) refl
     where
-      go : (t : Bool) → eqb (x / 1048576) (e / 1048576) ≡ t → names (issueShard e) (issueIndex e) x ≡ t
-      go true h = named-alike (eqb-true (x / 1048576) (e / 1048576) h)
-      go false h = named-unlike (eqb-false (x / 1048576) (e / 1048576) h)
+      go : (t : Bool) → eqb (x / 2 ^ 20) (e / 2 ^ 20) ≡ t → t ≡ names (issueShard e) (issueIndex e) x
+      go true h = sym (named-alike (eqb-true (x / 2 ^ 20) (e / 2 ^ 20) h))
+      go false h = sym (named-unlike (eqb-false (x / 2 ^ 20) (e / 2 ^ 20) h))
 
 -- ---- a list
 
-pub issued-none : (z i : ℕ) → issuedIn z i [] ≡ false
-unfolding issuedIn
-issued-none z i = refl
+-- from bit 0 on, an entry itself is looked for
+pub like-entry : (e : ℕ) (l : List ℕ) → hasLike 0 e l ≡ contains e l
+unfolding hasLike contains
+like-entry e [] = refl
+like-entry e (x ∷ l) = rw (div-one x, div-one e, like-entry e l)
 
-pub issued-one : (z i x : ℕ) (l : List ℕ) → issuedIn z i (x ∷ l) ≡ names z i x || issuedIn z i l
-unfolding issuedIn
-issued-one z i x l = refl
-
--- an issue for the shard and the index of e is looked for, by that comparison
-abbrev pub for-issue : (e : ℕ) → isIssue e ≡ true → Scan
-for-issue e is =
-    record {
-      key = λ x. x / 1048576;
-      sought = e / 1048576;
-      found = issuedIn (issueShard e) (issueIndex e);
-      none = issued-none (issueShard e) (issueIndex e);
-      one = λ x l.
-          issued-one (issueShard e) (issueIndex e) x l
-          ∙ ap (λ (t : Bool). t || issuedIn (issueShard e) (issueIndex e) l) (name-tells e x is);
-    }
+-- from bit 20 on, an issue for the same shard and index
+pub like-issue : (e : ℕ) (l : List ℕ) → isIssue e ≡ true → hasLike 20 e l ≡ issuedIn (issueShard e) (issueIndex e) l
+unfolding hasLike issuedIn
+like-issue e [] is = refl
+like-issue e (x ∷ l) is = rw (name-tells e x is, like-issue e l is)
 
 -- no issue for a shard and an index is in a list: there is none at any of its places
 pub issued-nowhere : (z i : ℕ) (l : List ℕ) → issuedIn z i l ≡ false → (q : ℕ) → q < length l → names z i (getD l q 0) ≡ false

@@ -1,10 +1,10 @@
--- `lookup::issues::is_issue_for` meets its contract.
+-- `install_steps::issues::is_issue_for` meets its contract.
 use mathlib.Core.Path.{sym, _∙_}
 use borrow.Author.Tests.{not-true, not-false}
 use Rattle.model.specs.Entries.{isIssueFor}
 use borrow.Author.Needs.{needs}
-use Rattle.lookup.proofs.issues.is_issue_for.Statement.{statement}
-use Rattle.lookup.proofs.issues.is_issue_for.Tie as tie
+use Rattle.install_steps.proofs.issues.is_issue_for.Statement.{statement}
+use Rattle.install_steps.proofs.issues.is_issue_for.Tie as tie
 
 is-issue-requires : tie.Need-is-issue-requires
 is-issue-requires c κs = search needs
