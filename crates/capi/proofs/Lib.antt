@@ -2,3 +2,4 @@
 pub mod Reports
 pub mod Counts
 pub mod StepWords
+pub mod TraceOutputs

@@ -7,3 +7,4 @@ pub mod Steps
 pub mod Lists
 pub mod Transcripts
 pub mod Spreadsheets
+pub mod Traces

@@ -5,5 +5,6 @@ mod replays;
 mod spreadsheets;
 mod state;
 mod steps;
+mod traces;
 mod transcripts;
 mod words;

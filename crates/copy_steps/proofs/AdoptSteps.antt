@@ -23,7 +23,7 @@ use Rattle.lookup.specs.declared.Seat.{Seat}
 use Rattle.lookup.specs.Ready.{ReadyHost, ReadyInstalled, Placed, HoldsReplica}
 use Rattle.lookup.specs.Seats.{seatOf}
 use Rattle.lookup.specs.Kinds.{ReadyKind, kindAnswer, kindAfter}
-use Rattle.lookup.proofs.Fields.{mode-word, stable-word, active-word, pending-word}
+use Rattle.model.proofs.Fields.{mode-word, stable-word, origin-word, active-word, pending-word}
 use Rattle.lookup.proofs.Words.{length-word}
 use Rattle.lookup.proofs.Seats.{At, at-found, early, words-at}
 use Rattle.lookup.proofs.Orderers.{orderer-at, orderer-replica}
@@ -91,7 +91,7 @@ module _ {w : List ℕ} {n z j : ℕ} (p : ReadyKind w n z j) (h d : ℕ) {b : B
             orderer-pending m = rejects Adopt p h d test e (rw (eq-eqb _ _ m) at last) (λ o. omega arith)
 
             pub done : (getD w o 0 ≡ 1 → ⊥) → {l m : ℕ} → l ≡ max (getD w (r .place + 2) 0) (getD w (o + 2) 0) → m ≡ min l (getD w (o + 1) 0)
-                → {v : List ℕ} → v ≡ putReplica w (r .place) (copied 2 m (replicaAt w o))
+                → {v : List ℕ} → v ≡ putReplica w (r .place) (copied 2 m (getD w (r .place + 3) 0) (replicaAt w o))
                 → (0 ≡ kindAnswer Adopt w z j h d) × (v ≡ kindAfter Adopt w z j h d)
             unfolding kindChecks kindEffect adoptEffect adopted
             done g {l} {m} el em f =
@@ -105,6 +105,7 @@ module _ {w : List ℕ} {n z j : ℕ} (p : ReadyKind w n z j) (h d : ℕ) {b : B
                   active,
                   stable-word w (r .place),
                   stable-word w o,
+                  origin-word w (r .place),
                   length-word w o (words-at (orderer-at there q) (p .ready)),
                   ← el,
                   ← em,

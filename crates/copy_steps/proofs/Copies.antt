@@ -27,8 +27,8 @@ unfolding putReplica
 lent-put w at l r e = rw (e, add-sub-cancel-left at 64, drop-drop 64 at w)
 
 -- the list c of the words that were copied from the place q, in the place p
-pub put-copied : (w : List ℕ) (p q : ℕ) → HoldsReplica w q → (c : List ℕ) → c ≡ take (q + 64 - q) (drop q w) → (m s : ℕ) (l : List ℕ)
-    → l ≡ set (set c 0 m) 2 s → putMid p (p + 64 - p) w l ≡ putReplica w p (copied m s (replicaAt w q))
+pub put-copied : (w : List ℕ) (p q : ℕ) → HoldsReplica w q → (c : List ℕ) → c ≡ take (q + 64 - q) (drop q w) → (m s o : ℕ) (l : List ℕ)
+    → l ≡ set (set (set c 0 m) 2 s) 3 o → putMid p (p + 64 - p) w l ≡ putReplica w p (copied m s o (replicaAt w q))
 unfolding replicaWords
-put-copied w p q h c e m s l d =
-    lent-put w p l (copied m s (replicaAt w q)) (d ∙ ap (λ (v : List ℕ). set (set v 0 m) 2 s) (e ∙ lent-part w q ∙ h .words))
+put-copied w p q h c e m s o l d =
+    lent-put w p l (copied m s o (replicaAt w q)) (d ∙ ap (λ (v : List ℕ). set (set (set v 0 m) 2 s) 3 o) (e ∙ lent-part w q ∙ h .words))

@@ -17,7 +17,8 @@ use Rattle.model.proofs.WellFormedMembers.{member-proper}
 use Rattle.lookup.specs.Ready.{Ready}
 use Rattle.lookup.specs.declared.Seat.{Seat}
 use Rattle.lookup.specs.Seats.{seatOf}
-use Rattle.lookup.proofs.Fields.{formed, immutable-word}
+use Rattle.model.proofs.Fields.{immutable-word}
+use Rattle.lookup.proofs.Fields.{formed}
 use Rattle.lookup.proofs.Seats.{At}
 
 -- a pending replica is of no first configuration

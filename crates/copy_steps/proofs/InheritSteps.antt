@@ -19,7 +19,7 @@ use Rattle.lookup.specs.declared.Seat.{Seat}
 use Rattle.lookup.specs.Ready.{ReadyHost, Placed, HoldsReplica}
 use Rattle.lookup.specs.Seats.{seatOf}
 use Rattle.lookup.specs.Kinds.{ReadyKind, kindAnswer, kindAfter}
-use Rattle.lookup.proofs.Fields.{stable-word, pending-word}
+use Rattle.model.proofs.Fields.{stable-word, pending-word}
 use Rattle.lookup.proofs.Seats.{At, at-found, early, words-at}
 use Rattle.lookup.proofs.KindAnswers.{rejects, accepts, fourth-small, ready-host}
 use Rattle.copy_steps.specs.Copies.{copied}
@@ -83,7 +83,7 @@ module _ {w : List ℕ} {n z j : ℕ} (p : ReadyKind w n z j) (h g : ℕ) {b : B
             holds m = record { placed = m; words = words-at from (ready-before (p .ready)) }
 
             pub done : getD w (q .place) 0 ≡ 3 → {v : List ℕ}
-                → v ≡ putReplica w (r .place) (copied 2 (getD w (q .place + 2) 0) (replicaAt w (q .place)))
+                → v ≡ putReplica w (r .place) (copied 2 (getD w (q .place + 2) 0) (g + 1) (replicaAt w (q .place)))
                 → (0 ≡ kindAnswer Inherit w z j h g) × (v ≡ kindAfter Inherit w z j h g)
             unfolding kindChecks kindEffect inheritEffect inherited source
             done m x =

@@ -2,6 +2,6 @@
 use Prim.Native.Nat.{ℕ}
 use Rattle.model.specs.Replicas.{Replica}
 
--- .. in a mode and with a stable length of its own
-abbrev pub copied : ℕ → ℕ → Replica → Replica
-copied mode stable r = record { mode = mode; history = r .history; stable = stable }
+-- .. in a mode, with a stable length and an origin of its own
+abbrev pub copied : ℕ → ℕ → ℕ → Replica → Replica
+copied mode stable origin r = record { mode = mode; history = r .history; stable = stable; origin = origin }

@@ -4,6 +4,7 @@ use arguments::are_numbers;
 use model::kind::Kind;
 use model::layout::ACTIVE;
 use model::layout::LENGTH;
+use model::layout::ORIGIN;
 use model::layout::PENDING;
 use model::layout::STABLE;
 ghost use mathlib.Core.Path.{_≡_};
@@ -52,6 +53,7 @@ pub fn adopt(state: &mut [u64], shards: usize, z: usize, j: usize, host: u64, d:
         larger(state[p + STABLE], state[o + STABLE]),
         state[o + LENGTH],
     );
-    copy_replica(state, p, o, ACTIVE, stable);
+    let origin = state[p + ORIGIN];
+    copy_replica(state, p, o, ACTIVE, stable, origin);
     0
 }

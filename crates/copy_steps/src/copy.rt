@@ -1,4 +1,5 @@
 // The words of a replica, copied to another one's place.
+use model::layout::ORIGIN;
 use model::layout::REPLICA_WORDS;
 use model::layout::STABLE;
 ghost use mathlib.Core.Path.{_≡_};
@@ -19,16 +20,17 @@ fn copy_words(words: &mut [u64], from: &[u64])
     }
 }
 
-// The replica at p gets the words of the one at q, but for the mode and the stable length.
-pub fn copy_replica(state: &mut [u64], p: usize, q: usize, mode: u64, stable: u64)
+// The replica at p gets the words of the one at q, but for the mode, the stable length and the origin.
+pub fn copy_replica(state: &mut [u64], p: usize, q: usize, mode: u64, stable: u64, origin: u64)
     requires { ⌜ Placed (now state) p × HoldsReplica (now state) q ⌝ }
-    ensures { λ _. ⌜ now (state .exit) ≡ putReplica (now (state .entry)) p (copied mode stable (replicaAt (now (state .entry)) q)) ⌝ }
+    ensures { λ _. ⌜ now (state .exit) ≡ putReplica (now (state .entry)) p (copied mode stable origin (replicaAt (now (state .entry)) q)) ⌝ }
 {
     let last = q + REPLICA_WORDS;
     let mut copy = [0u64; REPLICA_WORDS];
     copy_words(&mut copy, &state[q..last]);
     copy[0] = mode;
     copy[STABLE] = stable;
+    copy[ORIGIN] = origin;
     let end = p + REPLICA_WORDS;
     copy_words(&mut state[p..end], &copy);
 }

@@ -35,6 +35,6 @@ pub fn inherit(state: &mut [u64], shards: usize, z: usize, j: usize, host: u64, 
         return 13;
     }
     let stable = state[q + STABLE];
-    copy_replica(state, p, q, ACTIVE, stable);
+    copy_replica(state, p, q, ACTIVE, stable, source + 1);
     0
 }

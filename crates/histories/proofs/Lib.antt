@@ -9,3 +9,6 @@ pub mod HistorySizes
 pub mod Seats
 pub mod Prefixes
 pub mod Shown
+pub mod Traces
+pub mod TraceAnswers
+pub mod TraceLaws

@@ -98,6 +98,7 @@ module _ (w : List ℕ) (z i h : ℕ) where
 
 -- a replica that was found is that of a member, and its place is known
 pub record Found (w : List ℕ) (z i h : ℕ) : Type 0 where
+  pub inRange : Named (shardsOf (length w)) z i h
   pub ready : Ready w z (i - 1)
   pub there : isInstalled w z (i - 1) ≡ true
   pub member : hasMember (members w z (i - 1)) h ≡ true
@@ -109,6 +110,7 @@ found w z i h e =
     let p = passed (seatChecks w z i h) refl e in
     let least = leb-true 2 (shardsOf (length w)) (p .0) in
     record {
+      inRange = named (shardsOf (length w)) z i h (p .1 .0);
       ready = ready-host w z i h (λ q. omega arith) (p .1 .0) (p .1 .1 .0) .ready;
       there = p .1 .1 .1 .0;
       member = p .1 .1 .1 .1 .0;

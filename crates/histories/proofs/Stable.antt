@@ -16,7 +16,8 @@ use Rattle.model.specs.WellFormed.{isPart}
 use Rattle.model.proofs.Places.{replica-place, place-fits}
 use Rattle.model.proofs.SeatedReplica.{number-small}
 use Rattle.model.proofs.WellFormedParts.{part-is-words, part-proper, part-vacant}
-use Rattle.lookup.proofs.Fields.{stable-word, formed}
+use Rattle.model.proofs.Fields.{stable-word}
+use Rattle.lookup.proofs.Fields.{formed}
 use Rattle.lookup.proofs.Words.{length-word, length-few, history-words}
 use Rattle.lookup.specs.Ready.{Formed, Ready}
 use Rattle.histories.specs.Entries.{entriesAt, HasEntries}

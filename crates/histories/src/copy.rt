@@ -25,7 +25,7 @@ pub fn copy_entries(state: &[u64], place: usize, out: &mut [u64]) -> Listing
 }
 
 // Copies entries to the start of an output that has room for them.
-fn copy(out: &mut [u64], entries: &[u64])
+pub fn copy(out: &mut [u64], entries: &[u64])
     requires { ⌜ length (now entries) ≤ length (now out) ⌝ }
     ensures { λ _. ⌜ now (out .exit) ≡ now (entries .entry) ++ drop (length (now (entries .entry))) (now (out .entry)) ⌝ }
 {

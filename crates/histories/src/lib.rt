@@ -1,9 +1,11 @@
-// Lists read off a state: a shard's stable history, and a replica's stable prefix, which is what a host shows.
+// Lists read off a state: a shard's stable history, a replica's stable prefix, which is what a host shows, and the hosts from which a replica's history came.
 
-mod copy;
+pub mod copy;
 pub mod history;
 pub mod pick;
 pub mod prefix;
+mod seat;
+pub mod trace;
 
 // How many entries were copied, or the rejection.
 pub enum Listing {

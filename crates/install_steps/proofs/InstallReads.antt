@@ -15,7 +15,8 @@ use Rattle.model.proofs.Heads.{installed-word}
 use Rattle.model.proofs.WellFormedMembers.{member-proper}
 use Rattle.model.proofs.WellFormedInstall.{sequencer-below}
 use Rattle.lookup.specs.Ready.{Ready, ReadyHost}
-use Rattle.lookup.proofs.Fields.{formed, stable-word}
+use Rattle.model.proofs.Fields.{stable-word}
+use Rattle.lookup.proofs.Fields.{formed}
 use Rattle.lookup.proofs.Seats.{At, words-at}
 use Rattle.lookup.proofs.Words.{length-word, history-words}
 use Rattle.lookup.specs.Searches.{issuedIn}

@@ -29,7 +29,13 @@ headed-long w z n m o = simp length-set
 -- a replica of no member is unused
 vacant-unused : (r : Replica) → Vacant r → r ≡ unused
 unfolding unused
-vacant-unused r v = λ i. record { mode = v .mode-none i; history = empty (r .history) (v .history-none) i; stable = v .stable-none i }
+vacant-unused r v =
+    λ i. record {
+      mode = v .mode-none i;
+      history = empty (r .history) (v .history-none) i;
+      stable = v .stable-none i;
+      origin = v .origin-none i;
+    }
   where
     empty : (l : List ℕ) → length l ≡ 0 → l ≡ []
     empty [] e = refl

@@ -49,7 +49,7 @@ module _ (w : List ℕ) (at : ℕ) (r s : Replica) (e : part w at ≡ replicaWor
 
 -- a replica in another mode
 abbrev pub inMode : ℕ → Replica → Replica
-inMode m r = record { mode = m; history = r .history; stable = r .stable }
+inMode m r = record { mode = m; history = r .history; stable = r .stable; origin = r .origin }
 
 module _ (w : List ℕ) (at : ℕ) (r : Replica) (e : part w at ≡ replicaWords r) where
   pub store-mode : (m : ℕ) → set w at m ≡ putReplica w at (inMode m r)

@@ -56,6 +56,6 @@ module _ (w : List ℕ) (at : ℕ) (e : part w at ≡ replicaWords (replicaAt w 
       let r = replicaAt w at in
       let here : at + 8 + p ≡ at + (8 + p) = omega arith in
       ap (λ (i : ℕ). getD w i 0) here ∙ word (8 + p) (omega arith)
-      ∙ getD-append-add (r .mode ∷ length (r .history) ∷ r .stable ∷ 0 ∷ 0 ∷ 0 ∷ 0 ∷ 0 ∷ [])
+      ∙ getD-append-add (r .mode ∷ length (r .history) ∷ r .stable ∷ r .origin ∷ 0 ∷ 0 ∷ 0 ∷ 0 ∷ [])
       (r .history ++ replicate (56 - length (r .history)) 0) p 0
       ∙ padded (r .history) (56 - length (r .history)) p

@@ -19,6 +19,7 @@ pub record Forward (w w′ : List ℕ) : Type 0 where
   pub memberships : (z j : ℕ) → z < shards w → j < installed w z → members w′ z j ≡ members w z j
   pub orderers : (z j : ℕ) → z < shards w → j < installed w z → orderer w′ z j ≡ orderer w z j
   pub prefixes : (z j k : ℕ) → z < shards w → Begins (stablePrefix (view w z j k)) (stablePrefix (view w′ z j k))
+  pub immutables : (z j k : ℕ) → z < shards w → view w z j k .mode ≡ 3 → view w′ z j k ≡ view w z j k
 
 pub forward-shards : {w w′ : List ℕ} → Forward w w′ → shards w′ ≡ shards w
 unfolding shards
@@ -33,6 +34,7 @@ forward-refl {w} =
       memberships = λ z j h g. refl;
       orderers = λ z j h g. refl;
       prefixes = λ z j k h. begins-refl;
+      immutables = λ z j k h m. refl;
     }
 
 pub forward-trans : {u v w : List ℕ} → Forward u v → Forward v w → Forward u w
@@ -44,6 +46,7 @@ forward-trans {u} {v} {w} a b =
       memberships = λ z j h g. b .memberships z j (on z h) (lt-of-lt-of-le g (a .installs z h)) ∙ a .memberships z j h g;
       orderers = λ z j h g. b .orderers z j (on z h) (lt-of-lt-of-le g (a .installs z h)) ∙ a .orderers z j h g;
       prefixes = λ z j k h. begins-trans (a .prefixes z j k h) (b .prefixes z j k (on z h));
+      immutables = λ z j k h m. let e = a .immutables z j k h m in b .immutables z j k (on z h) (rw e m) ∙ e;
     }
   where
     on : (z : ℕ) → z < shards u → z < shards v

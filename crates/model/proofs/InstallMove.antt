@@ -29,7 +29,7 @@ module _ {v v′ : View} {offer : List ℕ} {j : ℕ} (i : Inv v offer) (seen : 
       go (still-unused p q e) = absurd (omega (arith, ap (λ (r : Replica). r .mode) e))
 
   -- an immutable replica stays
-  immutable-stays : (a b : ℕ) → v a b .mode ≡ 3 → v′ a b ≡ v a b
+  pub immutable-stays : (a b : ℕ) → v a b .mode ≡ 3 → v′ a b ≡ v a b
   unfolding unused
   immutable-stays a b h = go (seen a b)
     where

@@ -1,12 +1,15 @@
--- What a change of a state has to show besides well-formedness: the invariant of every shard, that nothing goes back, and the issues.
+-- What a change of a state has to show besides well-formedness: the invariant of every shard, that nothing goes back, the issues, and where origins are from.
 -- Assumes nothing.
 use Prim.Native.Nat.{ℕ, suc, _+_, _<_}
 use mathlib.Core.Path.{_≡_, refl, sym, subst}
+use mathlib.Core.Bool.{true}
 use mathlib.Core.List.{List}
 use Rattle.model.specs.Layout.{sequencer, installed, members, orderer}
 use Rattle.model.specs.StableHistory.{stableHistory}
 use Rattle.model.specs.Prefixes.{Begins}
 use Rattle.model.specs.OneList.{shards}
+use Rattle.model.specs.Members.{hasMember, replicaNumber}
+use Rattle.model.specs.Replicas.{Replica, inherited}
 use Rattle.model.proofs.WellFormedInstall
 use Rattle.model.proofs.Histories.{Wider, offered-wider}
 use Rattle.model.proofs.Views.{View, Inv}
@@ -16,10 +19,23 @@ use Rattle.model.proofs.Forward.{Forward}
 use Rattle.model.proofs.WellFormed.{WellFormed, well-formed}
 use Rattle.model.proofs.Safe.{Safe, Issued}
 
+-- host g of configuration a of shard z is a source: a member whose replica, which the view shows at its number, is immutable
+pub record Source (w : List ℕ) (z a g : ℕ) : Type 0 where
+  pub there : a < installed w z
+  pub member : hasMember (members w z a) g ≡ true
+  pub isImmutable : view w z a (replicaNumber (members w z a) g) .mode ≡ 3
+
+-- where the origin of r is from, which takes the place of replica k of configuration j: it was there, or r inherits from the host that it names
+pub data From (w : List ℕ) (z j k : ℕ) (r : Replica) (g : ℕ) : Type 0 where
+  stood : view w z j k .origin ≡ suc g → From w z j k r g
+  inherits : (a : ℕ) → j ≡ suc a → Source w z a g → view w z j k .mode ≡ 1
+      → r ≡ inherited g (view w z a (replicaNumber (members w z a) g)) → From w z j k r g
+
 pub record Kept (w : List ℕ) (offers : ℕ → List ℕ) (w′ : List ℕ) (offers′ : ℕ → List ℕ) : Type 0 where
   pub forward : Forward w w′
   pub inv : (z : ℕ) → z < shards w → Inv (view w′ z) (offers′ z)
   pub issues : (z j : ℕ) → z < shards w → suc j < installed w′ z → Issued w′ z j
+  pub origins : (z j k g : ℕ) → z < shards w → view w′ z j k .origin ≡ suc g → From w z j k (view w′ z j k) g
 
 -- a safe state is well-formed
 pub formed : {w : List ℕ} {offers : ℕ → List ℕ} → Safe w offers → WellFormed (shards w) w

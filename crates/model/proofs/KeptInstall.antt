@@ -24,7 +24,7 @@ use Rattle.model.proofs.Histories.{wider-refl}
 use Rattle.model.proofs.Views.{Inv}
 use Rattle.model.proofs.Moves.{prefix-begins}
 use Rattle.model.proofs.KindMoves.{prefix-length}
-use Rattle.model.proofs.InstallMove.{SeenNew, as-it-was, now-pending, still-unused, install-keeps, install-grows}
+use Rattle.model.proofs.InstallMove.{SeenNew, as-it-was, now-pending, still-unused, install-keeps, install-grows, immutable-stays}
 use Rattle.model.proofs.StateViews.{view, view-in, InView, inside, outside, in-view, stable-begins, stable-grows}
 use Rattle.model.proofs.Issues.{first-stays, first-at, none-before, issue-word, issue-not-zero}
 use Rattle.model.proofs.Rivals.{names-own}
@@ -36,7 +36,7 @@ use Rattle.model.proofs.InstallNext.{next-length, next-other, next-inst
 use Rattle.model.proofs.WellFormedInstall.{old-vacant, issuer-proper, issue-proper, stable-issue, next-index}
 use Rattle.model.proofs.SeatedReplica.{member-view}
 use Rattle.model.proofs.Safe.{Safe, Issued}
-use Rattle.model.proofs.Kept.{Kept, formed, sequencer-below, inv-same, issued-stays}
+use Rattle.model.proofs.Kept.{From, stood, Kept, formed, sequencer-below, inv-same, issued-stays}
 
 empty-of : (l : List ℕ) → length l ≡ 0 → l ≡ []
 empty-of [] e = refl
@@ -45,7 +45,12 @@ empty-of (x ∷ l) e = absurd (omega (arith, e))
 vacant-unused : (r : Replica) → Vacant r → r ≡ unused
 unfolding unused
 vacant-unused r v =
-    λ i. record { mode = v .mode-none i; history = empty-of (r .history) (v .history-none) i; stable = v .stable-none i }
+    λ i. record {
+      mode = v .mode-none i;
+      history = empty-of (r .history) (v .history-none) i;
+      stable = v .stable-none i;
+      origin = v .origin-none i;
+    }
 
 -- one fact, or two others
 data Either (A B C : Type 0) : Type 0 where
@@ -118,6 +123,29 @@ module _ {w : List ℕ} {offers : ℕ → List ℕ} (x : Safe w offers) {z : ℕ
           (install-grows (x .inv z hz) seen a b)
       go (no d) = rw (elsewhere y a b (λ s t u. d s)) begins-refl
 
+  new-immutables : (y a b : ℕ) → y < shards w → view w y a b .mode ≡ 3 → view new y a b ≡ view w y a b
+  new-immutables y a b h i = go (ℕ-discrete z y)
+    where
+      go : Dec (z ≡ y) → view new y a b ≡ view w y a b
+      go (yes e) =
+          subst (λ (q : ℕ). view new q a b ≡ view w q a b) e
+          (immutable-stays (x .inv z hz) seen a b (subst (λ (q : ℕ). view w q a b .mode ≡ 3) (sym e) i))
+      go (no d) = elsewhere y a b (λ s t u. d s)
+
+  -- the new replicas have no origin
+  new-origins : (y a b g : ℕ) → y < shards w → view new y a b .origin ≡ suc g → From w y a b (view new y a b) g
+  unfolding pending unused
+  new-origins y a b g h o = go (ℕ-discrete z y) (seen a b)
+    where
+      in-shard : z ≡ y → view new z a b .origin ≡ suc g
+      in-shard e = subst (λ (c : ℕ). view new c a b .origin ≡ suc g) (sym e) o
+
+      go : Dec (z ≡ y) → SeenNew (view w z) (view new z) n a b → From w y a b (view new y a b) g
+      go (no d) s = stood (rw (elsewhere y a b (λ s t u. d s)) at o)
+      go (yes e) (as-it-was q s) = stood (rw (sym e) (rw s at (in-shard e)))
+      go (yes e) (now-pending p q s) = absurd (omega (arith, in-shard e, ap (λ (r : Replica). r .origin) s))
+      go (yes e) (still-unused p q s) = absurd (omega (arith, in-shard e, ap (λ (r : Replica). r .origin) s))
+
   -- head words of an installed configuration, and the sequencer, are not written
   old-word : (y i : ℕ) → i < 64 → (z ≡ y → (1 ≡ i → ⊥) × (2 + n ≡ i → ⊥) × (10 + n ≡ i → ⊥)) → headWord new y i ≡ headWord w y i
   unfolding new n
@@ -164,6 +192,7 @@ module _ {w : List ℕ} {offers : ℕ → List ℕ} (x : Safe w offers) {z : ℕ
         memberships = old-members;
         orderers = old-orderer;
         prefixes = new-prefixes;
+        immutables = new-immutables;
       }
 
   -- a configuration of the new state is an old one, or the new one
@@ -209,6 +238,7 @@ module _ {w : List ℕ} {offers : ℕ → List ℕ} (x : Safe w offers) {z : ℕ
           forward = new-forward;
           inv = new-inv;
           issues = λ y a h l. go y a h (old-or-new y a h l);
+          origins = new-origins;
         }
       where
         go : (y a : ℕ) → y < shards w → Either (suc a < installed w y) (z ≡ y) (suc a ≡ n) → Issued new y a

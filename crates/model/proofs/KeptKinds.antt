@@ -12,7 +12,7 @@ use lib.ListN.{length, take, length-append}
 use Rattle.model.specs.Tests.{contains}
 use Rattle.model.specs.Members.{size, hasMember, replicaNumber}
 use Rattle.model.specs.Replicas.{Replica, unused, isActive, isPending, isImmutable, added, adopted, learned, wedged, inherited}
-use Rattle.model.specs.Layout.{place, part, isInstalled, members, orderer, putReplica, replicaAt}
+use Rattle.model.specs.Layout.{place, part, installed, isInstalled, members, orderer, putReplica, replicaAt}
 use Rattle.model.specs.Configuration.{configuration, replicaPlace, replicaOf}
 use Rattle.model.specs.Add.{ordererPlace, ordererReplica, noRival, addChecks, addEffect}
 use Rattle.model.specs.Adopt.{adoptChecks, adoptEffect}
@@ -37,7 +37,7 @@ use Rattle.model.proofs.SeatedReplica.{number-small, member-view}
 use Rattle.model.proofs.Safe.{Safe}
 use Rattle.model.proofs.ProperReplicas.{active-mode}
 use Rattle.model.proofs.Alike.{every-alike, alike-long, alike-begins}
-use Rattle.model.proofs.Kept.{Kept, formed}
+use Rattle.model.proofs.Kept.{From, stood, inherits, Kept, formed}
 use Rattle.model.proofs.KeptPut.{kept-put}
 
 -- modes by their tests
@@ -70,10 +70,11 @@ module _ {w : List ℕ} {offers : ℕ → List ℕ} (x : Safe w offers) {z j : �
   -- what replaces the replica of a member h: a move of the view
   at-member : {offers′ : ℕ → List ℕ} (h : ℕ) → hasMember (members w z j) h ≡ true → (r : Replica) → length (r .history) ≤ 56
       → ((a : ℕ) → Wider (offers a) (offers′ a)) → Move (view w z) (offers′ z) j (number h) r
+      → ((g : ℕ) → r .origin ≡ suc g → From w z j (number h) r g)
       → Kept w offers (putReplica w (replicaPlace (configuration w z j) h) r) offers′
   unfolding number
-  at-member h e r few wide m =
-      rw (replica-place w z j h) (kept-put x hz hj (number-small (formed x) hz hj h e) r few wide m)
+  at-member h e r few wide m from =
+      rw (replica-place w z j h) (kept-put x hz hj (number-small (formed x) hz hj h e) r few wide m from)
 
   shown : (h : ℕ) → hasMember (members w z j) h ≡ true → replicaOf w (configuration w z j) h ≡ view w z j (number h)
   unfolding number
@@ -87,10 +88,11 @@ module _ {w : List ℕ} {offers : ℕ → List ℕ} (x : Safe w offers) {z j : �
       rw (shown h member)
       (at-member h member (wedged (view w z j (number h))) (view-short j (number h) hj (number-small (formed x) hz hj h member))
       (λ a. wider-refl)
-      (wedge-move (x .inv z hz) j (number h) (active-mode _ (rw (shown h member) at active))))
+      (wedge-move (x .inv z hz) j (number h) (active-mode _ (rw (shown h member) at active)))
+      (λ g. stood))
 
   -- a replica with a mode is a member's
-  in-use : (k : ℕ) → 1 ≤ view w z j k .mode → (k < size (members w z j)) × (k < 4)
+  pub in-use : (k : ℕ) → 1 ≤ view w z j k .mode → (k < size (members w z j)) × (k < 4)
   unfolding unused
   in-use k l = go (in-view w z j k)
     where
@@ -131,7 +133,7 @@ module _ {w : List ℕ} {offers : ℕ → List ℕ} (x : Safe w offers) {z j : �
 
   pub kept-add : {offers′ : ℕ → List ℕ} (e : ℕ) → AllPass (addChecks w z j e) → ((a : ℕ) → Wider (offers a) (offers′ a))
       → contains e (offers′ z) ≡ true → Kept w offers (addEffect w z j e) offers′
-  unfolding addChecks addEffect ordererPlace ordererReplica configuration number
+  unfolding addChecks addEffect ordererPlace ordererReplica configuration added number
   kept-add {offers′} e p wide o =
       let there : isInstalled w z j ≡ true = search in
       let member : hasMember (members w z j) h ≡ true = orderer-is-member (formed x) hz hj there in
@@ -147,7 +149,8 @@ module _ {w : List ℕ} {offers : ℕ → List ℕ} (x : Safe w offers) {z j : �
       (not-true _ (rw (shown h member) at new))
       (rw (shown h member) at first)
       (wide z)
-      o))
+      o)
+      (λ g. stood))
     where
       h : ℕ
       h = orderer w z j
@@ -165,7 +168,8 @@ module _ {w : List ℕ} {offers : ℕ → List ℕ} (x : Safe w offers) {z j : �
       (view-short j (number o) hj (number-small (formed x) hz hj o led))
       (λ a. wider-refl)
       (adopt-move (x .inv z hz) j (number h) (number o) (active-mode _ (rw (shown h member) at active))
-      (rw (shown o led) at (past-pending o led (not-true _ waits)))))
+      (rw (shown o led) at (past-pending o led (not-true _ waits))))
+      (λ g. stood))
     where
       o : ℕ
       o = orderer w z j
@@ -188,25 +192,40 @@ module _ {w : List ℕ} {offers : ℕ → List ℕ} (x : Safe w offers) {z j : �
       (λ l q.
       let u = in-use l (omega (arith, q)) in
       let e = ap length (x .inv z hz .blank j l (omega (arith, q))) in
-      omega (arith, all l (u .0) (u .1) .0, e, grows))))
+      omega (arith, all l (u .0) (u .1) .0, e, grows)))
+      (λ g. stood))
 
   pub kept-inherit : (h g : ℕ) → AllPass (inheritChecks w z j h g) → Kept w offers (inheritEffect w z j h g) offers
-  unfolding inheritChecks inheritEffect source isSource inherited number
+  unfolding inheritChecks inheritEffect source isSource isInstalled inherited number
   kept-inherit h g p =
       let member : hasMember (members w z j) h ≡ true = search in
       let waits : isPending (replicaOf w (configuration w z j) h) ≡ true = search in
       let there : hasMember (members w z (j - 1)) g ≡ true = search (and-left, and-right) in
       let wedged : isImmutable (replicaOf w (configuration w z (j - 1)) g) ≡ true = search (and-left, and-right) in
+      let installs : isInstalled w z j ≡ true = search in
       let later : 1 ≤ j = member-proper (formed x) hz hj h member .waits waits .1 in
+      let before-installed : j - 1 < installed w z = omega (arith, ltb-true j (installed w z) installs) in
       let next : suc (j - 1) ≡ j = omega arith in
       let before : j - 1 < 8 = omega arith in
       let few = number-small (formed x) hz before g there in
       let old = member-view (formed x) hz before g there in
       rw old
-      (at-member h member (inherited (view w z (j - 1) (replicaNumber (members w z (j - 1)) g)))
+      (at-member h member (inherited g (view w z (j - 1) (replicaNumber (members w z (j - 1)) g)))
       (view-short (j - 1) (replicaNumber (members w z (j - 1)) g) before few)
       (λ a. wider-refl)
-      (subst (λ (q : ℕ). Move (view w z) (offers z) q (number h) (inherited (view w z (j - 1) (replicaNumber (members w z (j - 1)) g)))) next
+      (subst (λ (q : ℕ). Move (view w z) (offers z) q (number h) (inherited g (view w z (j - 1) (replicaNumber (members w z (j - 1)) g)))) next
       (inherit-move (x .inv z hz) (j - 1) (number h) (replicaNumber (members w z (j - 1)) g)
       (subst (λ (q : ℕ). view w z q (number h) .mode ≡ 1) (sym next) (pending-mode _ (rw (shown h member) at waits)))
-      (immutable-mode _ (rw old at wedged)))))
+      (immutable-mode _ (rw old at wedged))
+      g))
+      (λ q e.
+      let same : g ≡ q = omega (arith, e) in
+      subst (λ (c : ℕ). From w z j (number h) (inherited g (view w z (j - 1) (replicaNumber (members w z (j - 1)) g))) c) same
+      (inherits (j - 1) (sym next)
+      (record {
+        there = before-installed;
+        member = there;
+        isImmutable = immutable-mode _ (rw old at wedged);
+      })
+      (pending-mode _ (rw (shown h member) at waits))
+      refl)))

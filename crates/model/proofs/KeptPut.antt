@@ -1,6 +1,6 @@
 -- One replica of a safe state is replaced by a move of its shard's view.
 -- Assumes nothing.
-use Prim.Native.Nat.{ℕ, _*_, _≤_, _<_}
+use Prim.Native.Nat.{ℕ, suc, _*_, _≤_, _<_}
 use native.Mathlib.Nat.{le-of-eq, lt-of-lt-of-le}
 use native.Mathlib.Decide.{ℕ-discrete}
 use mathlib.Core.Path.{_≡_, sym, subst, _∙_}
@@ -15,15 +15,16 @@ use Rattle.model.proofs.Places.{place-fits, place-apart, sequencer-put,
 use Rattle.model.proofs.Prefixes.{begins-refl}
 use Rattle.model.proofs.Histories.{Wider}
 use Rattle.model.proofs.Views.{Inv}
-use Rattle.model.proofs.Moves.{Seen, here, there, Moved, Move, keeps, moved-grows}
+use Rattle.model.proofs.Moves.{Seen, here, there, Moved, Move, keeps, moved-grows, immutable-stays}
 use Rattle.model.proofs.StateViews.{view, view-in, InView, inside, outside, in-view}
 use Rattle.model.proofs.Forward.{Forward}
 use Rattle.model.proofs.WellFormed.{size-of}
 use Rattle.model.proofs.Safe.{Safe}
-use Rattle.model.proofs.Kept.{Kept, formed, inv-same, issued-stays}
+use Rattle.model.proofs.Kept.{From, stood, Kept, formed, inv-same, issued-stays}
 
 module _ {w : List ℕ} {offers offers′ : ℕ → List ℕ} (x : Safe w offers) {z j k : ℕ} (hz : z < shards w) (hj : j < 8) (hk : k < 4)
-    (r : Replica) (few : length (r .history) ≤ 56) (wide : (a : ℕ) → Wider (offers a) (offers′ a)) (m : Move (view w z) (offers′ z) j k r) where
+    (r : Replica) (few : length (r .history) ≤ 56) (wide : (a : ℕ) → Wider (offers a) (offers′ a)) (m : Move (view w z) (offers′ z) j k r)
+    (from : (g : ℕ) → r .origin ≡ suc g → From w z j k r g) where
   long : length w ≡ shards w * 2112
   long = size-of (formed x)
 
@@ -66,6 +67,26 @@ module _ {w : List ℕ} {offers offers′ : ℕ → List ℕ} (x : Safe w offers
       go (yes e) = rw (sym e) (moved-grows (x .inv z hz) (wide z) m moved a b)
       go (no n) = rw (elsewhere y a b (λ s t u. n s)) begins-refl
 
+  new-immutables : (y a b : ℕ) → y < shards w → view w y a b .mode ≡ 3 → view new y a b ≡ view w y a b
+  new-immutables y a b h i = go (ℕ-discrete z y)
+    where
+      go : Dec (z ≡ y) → view new y a b ≡ view w y a b
+      go (yes e) =
+          subst (λ (q : ℕ). view new q a b ≡ view w q a b) e
+          (immutable-stays (x .inv z hz) (wide z) m moved a b (subst (λ (q : ℕ). view w q a b .mode ≡ 3) (sym e) i))
+      go (no n) = elsewhere y a b (λ s t u. n s)
+
+  new-origins : (y a b g : ℕ) → y < shards w → view new y a b .origin ≡ suc g → From w y a b (view new y a b) g
+  new-origins y a b g h o = go (ℕ-discrete z y) (moved .seen a b)
+    where
+      in-shard : z ≡ y → view new z a b .origin ≡ suc g
+      in-shard e = subst (λ (c : ℕ). view new c a b .origin ≡ suc g) (sym e) o
+
+      go : Dec (z ≡ y) → Seen (view w z) (view new z) j k r a b → From w y a b (view new y a b) g
+      go (no n) s = stood (rw (elsewhere y a b (λ s t u. n s)) at o)
+      go (yes e) (there n q) = stood (rw (sym e) (rw q at (in-shard e)))
+      go (yes e) (here p q s) = rw (sym e, s, p, q) (from g (rw s at (in-shard e)))
+
   below-eight : (y a : ℕ) → y < shards w → a < installed w y → a < 8
   below-eight y a h l = lt-of-lt-of-le l (formed x .head y h .most)
 
@@ -79,6 +100,7 @@ module _ {w : List ℕ} {offers offers′ : ℕ → List ℕ} (x : Safe w offers
         memberships = λ y a h l. members-put w long hz hj hk r few y (below-eight y a h l);
         orderers = λ y a h l. orderer-put w long hz hj hk r few y (below-eight y a h l);
         prefixes = new-prefixes;
+        immutables = new-immutables;
       }
 
   pub kept-put : Kept w offers (putReplica w (place z j k) r) offers′
@@ -89,4 +111,5 @@ module _ {w : List ℕ} {offers offers′ : ℕ → List ℕ} (x : Safe w offers
         inv = new-inv;
         issues = λ y a h l.
             issued-stays x new-forward new-inv y a h (rw (installed-put w long hz hj hk r few y) at l);
+        origins = new-origins;
       }

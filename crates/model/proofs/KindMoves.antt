@@ -141,9 +141,9 @@ module _ {v : View} {offer : List ℕ} (i : Inv v offer) where
             let f : x ≡ suc b = omega (arith, leb-false x b e) in
             rw f (last (leb 2 (v (suc b) l .mode)) refl)
 
-    pub inherit-move : Move v offer (suc b) k (inherited (v b q))
+    pub inherit-move : (g : ℕ) → Move v offer (suc b) k (inherited g (v b q))
     unfolding inherited stablePrefix
-    inherit-move =
+    inherit-move g =
         record {
           live = lit≤ tt;
           notImmutable = pending-not a;

@@ -6,6 +6,7 @@ pub mod Concat
 pub mod Checks
 pub mod Members
 pub mod Parts
+pub mod Fields
 pub mod Places
 pub mod Lengths
 pub mod Heads
@@ -13,6 +14,7 @@ pub mod Alike
 pub mod Progress
 -- Well-formed states
 pub mod Entries
+pub mod Origins
 pub mod WellFormedParts
 pub mod Ranges
 pub mod WellFormed
@@ -55,6 +57,7 @@ pub mod ReferenceShard
 pub mod Moments
 pub mod OneList
 pub mod OneIssue
+pub mod Sources
 pub mod StableGrowth
 pub mod Appointed
 -- The log

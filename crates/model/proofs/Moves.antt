@@ -42,7 +42,7 @@ prefix-begins r = begins-take (r .stable) (r .history)
 module _ {v v′ : View} {offer offer′ : List ℕ} {j k : ℕ} {r : Replica} (i : Inv v offer) (w : Wider offer offer′) (m : Move v offer′ j k r)
     (d : Moved v v′ j k r) where
   -- immutable replicas are not changed
-  immutable-stays : (a b : ℕ) → v a b .mode ≡ 3 → v′ a b ≡ v a b
+  pub immutable-stays : (a b : ℕ) → v a b .mode ≡ 3 → v′ a b ≡ v a b
   immutable-stays a b h = go (d .seen a b)
     where
       go : Seen v v′ j k r a b → v′ a b ≡ v a b

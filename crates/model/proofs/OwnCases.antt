@@ -37,11 +37,12 @@ use Rattle.model.specs.Results.{readingNumber, readingStep, readingNext,
 use Rattle.model.specs.Results.{stopNumber, stopCode, replayNumber, replayCode, replayBytes}
 use Rattle.model.specs.Replay.{afterAll, replayRejection, replayed, rejectedIn}
 use Rattle.model.specs.Marked.{add, adopt, learn, wedge, install, inherit, takesUpTo, nextIssue}
-use Rattle.model.specs.OwnCases.{tried, changed, reported, tooShort, illFormed, borrowed, oneTake, replaced, goneOn}
+use Rattle.model.specs.OwnCases.{tried, changed, reported, tooShort, illFormed, borrowed, oneTake, replaced, goneOn, twoSources}
 use Rattle.model.specs.OwnCases.{rivalIssue, laterIssue, otherIssue, unmarked, twoIssues, heads}
 use Rattle.model.specs.OwnCases.{Effects, StepOrder, KindOrders, ReaderOrder, WriterOrder, ReplayOrder, OwnCases}
 use Rattle.model.proofs.WellFormed.{WellFormed, well-formed}
 use Rattle.model.proofs.WellFormedParts.{Proper, proper}
+use Rattle.model.proofs.Origins.{no-source}
 use Rattle.model.proofs.WellFormedPut.{put-keeps}
 use Rattle.model.proofs.StaysWellFormed.{replay-accepted}
 use Rattle.model.proofs.ProgramStart.{start-shards, start-formed}
@@ -102,10 +103,10 @@ replayed-ill log budget = rw (ill-shards, ill-formed)
 
 -- the changed words of the borrowed states are those of a proper replica
 strange : Replica
-strange = record { mode = 2; history = nextIssue ∷ []; stable = 0 }
+strange = record { mode = 2; history = nextIssue ∷ []; stable = 0; origin = 0 }
 
 rivalling : Replica
-rivalling = record { mode = 2; history = nextIssue ∷ rivalIssue ∷ []; stable = 2 }
+rivalling = record { mode = 2; history = nextIssue ∷ rivalIssue ∷ []; stable = 2; origin = 0 }
 
 both-proper : Proper 2 0 strange × Proper 2 0 rivalling
 unfolding strange rivalling isReplica isPending allOf isEntry isTake isProperIssue isIssue issueIndex issueShard issueOrderer issueMembers
@@ -123,12 +124,18 @@ unfolding members headWord headPlace programStart initialState programPlan planS
 two-members = (refl, refl)
 
 borrowed-formed : WellFormed 2 borrowed
+unfolding strange isPending
 borrowed-formed =
-    rw (both-put .0) (put-keeps start-formed (omega arith) (omega arith) (omega (arith, two-members .1)) strange (both-proper .0))
+    rw (both-put .0)
+    (put-keeps start-formed (omega arith) (omega arith) (omega (arith, two-members .1)) strange (both-proper .0) refl
+    (no-source programStart 1 0 strange refl refl))
 
 two-issues-formed : WellFormed 2 twoIssues
+unfolding rivalling isPending
 two-issues-formed =
-    rw (both-put .1) (put-keeps start-formed (omega arith) (omega arith) (omega (arith, two-members .0)) rivalling (both-proper .1))
+    rw (both-put .1)
+    (put-keeps start-formed (omega arith) (omega arith) (omega (arith, two-members .0)) rivalling (both-proper .1) refl
+    (no-source programStart 0 0 rivalling refl refl))
 
 -- a step on each
 on-borrowed : (s : Step) {n : ℕ} → quickRejection 2 borrowed s ≡ n → rejection borrowed s ≡ n
@@ -141,7 +148,7 @@ on-two-issues s e = quick-rejection two-issues-formed s ∙ e
 
 -- what steps leave, and the orders of the kinds: rows that compute by the same definitions
 by-kinds : Effects × KindOrders
-unfolding oneTake replaced goneOn heads takesUpTo nextIssue rivalIssue laterIssue otherIssue unmarked twoIssues borrowed changed issue
+unfolding oneTake replaced goneOn twoSources heads takesUpTo nextIssue rivalIssue laterIssue otherIssue unmarked twoIssues borrowed changed issue
     programStart initialState programPlan planSequencer planMembers planOrderer concatBelow initialShard initialHead initialReplica
     replicaWords readReplica fresh unused pending isActive isPending isImmutable added adopted learned wedged inherited
     quickAnswers quickAfterAll quickRejection quickAfter firstOf kindOf isKept isUnknown shardOf configurationOf inRange areNumbers kindChecks effect kindEffect
@@ -160,6 +167,7 @@ by-kinds = (
     wedges = left-after _ refl;
     installs = left-after _ refl;
     inherits = left-after _ refl;
+    origins = left-after _ refl;
   },
   record {
     adds = (

@@ -31,6 +31,7 @@ read-words r h =
       mode = r .mode;
       history = take-append-seam (r .history) (replicate (56 - length (r .history)) 0) i;
       stable = r .stable;
+      origin = r .origin;
     }
 
 -- a part has at most 64 words, so what it holds is short

@@ -75,6 +75,6 @@ module _ {Z j : ℕ} {r : Replica} (p : Proper Z j r) where
   wedged-proper = running Z j (wedged r) (omega arith) (omega arith) (p .few) (p .stable-most) (p .entries)
 
   -- in any configuration
-  pub inherited-proper : (i : ℕ) → Proper Z i (inherited r)
+  pub inherited-proper : (i g : ℕ) → Proper Z i (inherited g r)
   unfolding inherited
-  inherited-proper i = running Z i (inherited r) (omega arith) (omega arith) (p .few) (p .stable-most) (p .entries)
+  inherited-proper i g = running Z i (inherited g r) (omega arith) (omega arith) (p .few) (p .stable-most) (p .entries)

@@ -22,7 +22,7 @@ use Rattle.model.proofs.StateViews.{view, InView, inside, outside, in-v
 use Rattle.model.proofs.InitialState.{initial-part, initial-installed, initial-members}
 use Rattle.model.proofs.WellFormed.{WellFormed, is-well-formed}
 use Rattle.model.proofs.WellFormedMembers.{size-few}
-use Rattle.model.proofs.WellFormedSetup.{after-setup, setup-formed}
+use Rattle.model.proofs.WellFormedSetup.{initial-short, after-setup, setup-formed}
 use Rattle.model.proofs.Safe.{Safe}
 
 -- a replica of configuration j that is new: fresh in the first configuration, or unused
@@ -66,14 +66,6 @@ new-inv {v} n =
       offered = λ j k. rw (new-history (n j k)) offered-nil;
     }
 
-initial-short : (m n : ℕ) → length (initialReplica m n .history) ≤ 56
-unfolding initialReplica fresh unused
-initial-short m n = go (ltb n (size m))
-  where
-    go : (t : Bool) → length (cond t fresh unused .history) ≤ 56
-    go true = lit≤ tt
-    go false = lit≤ tt
-
 initial-new : (m j k : ℕ) → size m ≤ 4 → New j (initialReplica m (j * 4 + k))
 unfolding initialReplica
 initial-new m j k h = go (ltb (j * 4 + k) (size m)) refl
@@ -105,6 +97,18 @@ initial-safe Z p f =
       inv = λ z h. new-inv (initial-view Z p f z (rw (f .shards) at h));
       issues = λ z j h l. absurd (let g : suc j < 1 = rw (initial-installed Z p (rw (f .shards) at h)) at l in omega arith);
     }
+
+-- no replica has an origin
+new-origin : {j : ℕ} {r : Replica} → New j r → r .origin ≡ 0
+unfolding fresh unused
+new-origin (is-fresh h e) = ap (λ (q : Replica). q .origin) e
+new-origin (is-unused e) = ap (λ (q : Replica). q .origin) e
+
+pub setup-origin : (w p : List ℕ) → setupRejection w p ≡ 0 → (z j k : ℕ) → z < shards (afterSetup w p) → view (afterSetup w p) z j k .origin ≡ 0
+unfolding shards
+setup-origin w p e z j k =
+    rw (after-setup w p e)
+    (λ h. new-origin (initial-view (shardsOf (length w)) p (setup-formed w p e) z (rw (setup-formed w p e .shards) at h) j k))
 
 pub safe-setup : (w p : List ℕ) → setupRejection w p ≡ 0 → Safe (afterSetup w p) (λ z. [])
 safe-setup w p e = rw (after-setup w p e) (initial-safe (shardsOf (length w)) p (setup-formed w p e))

@@ -1,6 +1,6 @@
 -- An accepted step keeps a state safe, and goes forward.
 -- Assumes nothing.
-use Prim.Native.Nat.{ℕ}
+use Prim.Native.Nat.{ℕ, suc, _<_}
 use mathlib.Core.Path.{_≡_, refl, sym}
 use mathlib.Core.Bool.{Bool, true, false, cond, _&&_}
 use mathlib.Core.List.{List, _∷_}
@@ -20,7 +20,8 @@ use Rattle.model.proofs.WellFormed.{is-well-formed}
 use Rattle.model.proofs.WellFormedSteps.{effect-formed}
 use Rattle.model.proofs.Forward.{Forward, forward-refl, forward-shards}
 use Rattle.model.proofs.Safe.{Safe, offersAfter}
-use Rattle.model.proofs.Kept.{Kept}
+use Rattle.model.proofs.StateViews.{view}
+use Rattle.model.proofs.Kept.{From, stood, Kept}
 use Rattle.model.proofs.KeptKinds.{kept-add, kept-adopt, kept-learn, kept-wedge, kept-inherit}
 use Rattle.model.proofs.KeptInstall.{kept-install}
 
@@ -74,7 +75,11 @@ module _ (s : Step) (offers : ℕ → List ℕ) where
   add-offers e = rw (kind-is-add (s .kind), e, eq-eqb (shardOf s) (shardOf s) refl, eq-eqb (s .c) (s .c) refl)
 
 kept-as : {w w′ : List ℕ} {offers o o′ : ℕ → List ℕ} → ((z : ℕ) → o′ z ≡ o z) → Kept w offers w′ o → Kept w offers w′ o′
-kept-as e k = record { forward = k .forward; inv = λ z h. rw (e z) (k .inv z h); issues = k .issues }
+kept-as e k = record { forward = k .forward; inv = λ z h. rw (e z) (k .inv z h); issues = k .issues; origins = k .origins }
+
+-- a state that nothing changes
+kept-same : {w : List ℕ} {offers : ℕ → List ℕ} → Safe w offers → Kept w offers w offers
+kept-same x = record { forward = forward-refl; inv = x .inv; issues = x .issues; origins = λ z j k g h e. stood e }
 
 -- by kinds
 kept-step : {w : List ℕ} {offers : ℕ → List ℕ} → Safe w offers → (s : Step) → Accepted w s → (k : Kind) → kindOf (s .kind) ≡ k
@@ -94,13 +99,14 @@ kept-step {w} {offers} x s a Install e =
 kept-step {w} {offers} x s a Inherit e =
     rw e (kept-as (offers-same s offers (rw e)) (kept-inherit x (a .range .shard) (a .range .configuration) (s .c) (s .d) (rw e at (a .checks))))
 kept-step {w} {offers} x s a KeptKind e =
-    rw e (kept-as (offers-same s offers (rw e)) (record { forward = forward-refl; inv = x .inv; issues = x .issues }))
+    rw e (kept-as (offers-same s offers (rw e)) (kept-same x))
 kept-step {w} {offers} x s a Unknown e =
-    rw e (kept-as (offers-same s offers (rw e)) (record { forward = forward-refl; inv = x .inv; issues = x .issues }))
+    rw e (kept-as (offers-same s offers (rw e)) (kept-same x))
 
 pub record SafeStep (w w′ : List ℕ) (offers′ : ℕ → List ℕ) : Type 0 where
   pub safe : Safe w′ offers′
   pub forward : Forward w w′
+  pub origins : (z j k g : ℕ) → z < shards w → view w′ z j k .origin ≡ suc g → From w z j k (view w′ z j k) g
 
 pub safe-step : {w : List ℕ} {offers : ℕ → List ℕ} → Safe w offers → (s : Step) → rejection w s ≡ 0
     → SafeStep w (effect w s) (offersAfter s offers)
@@ -118,4 +124,5 @@ safe-step {w} {offers} x s e =
             issues = λ z j h l. k .issues z j (rw f at h) l;
           };
       forward = k .forward;
+      origins = k .origins;
     }

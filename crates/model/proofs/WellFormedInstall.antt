@@ -1,5 +1,5 @@
 -- Install keeps a state well-formed: the next configuration gets proper head words and pending replicas.
-use Prim.Native.Nat.{ℕ, _+_, _≤_, _<_}
+use Prim.Native.Nat.{ℕ, _+_, _-_, _≤_, _<_}
 use native.Mathlib.Omega.{arith}
 use native.Mathlib.Decide.{ℕ-discrete, decLt}
 use mathlib.Core.Path.{_≡_, sym, ap, _∙_, subst, subst₂}
@@ -7,19 +7,24 @@ use mathlib.Core.Bool.{Bool, true, false, not}
 use mathlib.Core.List.{List}
 use lib.Dec.{ltb, eqb}
 use borrow.Author.Tests.{ltb-true, lt-ltb, le-ltb, eqb-true}
-use Rattle.model.specs.Members.{size, isConfiguration}
+use Rattle.model.specs.Members.{size, hasMember, replicaNumber, isConfiguration}
 use Rattle.model.specs.Entries.{isIssue, isIssueFor, issueIndex, issueShard, issueOrderer, issueMembers}
-use Rattle.model.specs.Replicas.{pending}
-use Rattle.model.specs.Layout.{shardsOf, place, sequencer, installed, isInstalled, members, orderer, part}
+use Rattle.model.specs.Replicas.{readReplica, isPending, pending}
+use Rattle.model.specs.Layout.{shardsOf, place, sequencer, installed, isInstalled, members, orderer, part, replicaAt}
+use Rattle.model.specs.Inherit.{source}
+use Rattle.model.specs.Origins.{isOriginOf}
 use Rattle.model.specs.WellFormed.{isPart, isSequencer, isHeadOf}
 use Rattle.model.specs.Install.{issuer, issuedAt, isStableIssue, installChecks, installNext, installEffect}
 use Rattle.model.proofs.Tests.{both, and-left, and-right}
 use Rattle.model.proofs.Checks.{AllPass}
 use Rattle.model.proofs.Entries.{ProperIssue, proper-issue}
 use Rattle.model.proofs.InstallNext.{next-length, next-other, next-installed, next-members, next-orderer, next-pending, next-parts}
+use Rattle.model.proofs.Members.{number-below}
+use Rattle.model.proofs.Parts.{read-words}
+use Rattle.model.proofs.Origins.{source-place, origin-stays, pending-origin}
 use Rattle.model.proofs.WellFormedParts.{Proper, is-proper, all-at, replica-part}
 use Rattle.model.proofs.WellFormed.{Head, WellFormed, size-of}
-use Rattle.model.proofs.WellFormedMembers.{configured, head-open, size-none, member-proper}
+use Rattle.model.proofs.WellFormedMembers.{configured, head-open, size-none, size-few, member-proper}
 use Rattle.model.proofs.WellFormedPut.{head-same-words}
 use Rattle.model.proofs.ProperReplicas.{pending-proper}
 
@@ -104,14 +109,17 @@ module _ {Z : ℕ} {w : List ℕ} (f : WellFormed Z w) {z : ℕ} (hz : z < Z) (h
   Good : ℕ → ℕ → ℕ → Type 0
   Good z′ j k = isPart Z j (ltb k (size (members u z′ j))) (part u (place z′ j k)) ≡ true
 
-  -- the new configuration had no members, so its replicas were vacant
-  pub old-vacant : (k : ℕ) → k < 4 → isPart Z (installed w z) false (part w (place z (installed w z) k)) ≡ true
+  -- the new configuration had no members
+  none-there : members w z (installed w z) ≡ 0
   unfolding isInstalled
+  none-there =
+      head-open w z (installed w z) (f .head z hz .configured (installed w z) hn) (le-ltb (installed w z) (installed w z) (omega arith))
+
+  -- .. so its replicas were vacant
+  pub old-vacant : (k : ℕ) → k < 4 → isPart Z (installed w z) false (part w (place z (installed w z) k)) ≡ true
   old-vacant k h =
-      let e : members w z (installed w z) ≡ 0 =
-      head-open w z (installed w z) (f .head z hz .configured (installed w z) hn) (le-ltb (installed w z) (installed w z) (omega arith)) in
       subst (λ (b : Bool). isPart Z (installed w z) b (part w (place z (installed w z) k)) ≡ true)
-      (le-ltb k (size (members w z (installed w z))) (omega (arith, size-none (members w z (installed w z)) e)))
+      (le-ltb k (size (members w z (installed w z))) (omega (arith, size-none (members w z (installed w z)) none-there)))
       (f .parts z (installed w z) k hz hn h)
 
   new-parts : (k : ℕ) → k < 4 → Good z (installed w z) k
@@ -139,8 +147,66 @@ module _ {Z : ℕ} {w : List ℕ} (f : WellFormed Z w) {z : ℕ} (hz : z < Z) (h
       go (yes a) (no b) = old-parts z′ j k hz′ hj hk (λ x y. b y)
       go (no a) d = old-parts z′ j k hz′ hj hk (λ x y. a x)
 
+  -- ---- origins
+
+  Sourced : ℕ → ℕ → ℕ → Type 0
+  Sourced z′ j k = isOriginOf u z′ j (replicaAt u (place z′ j k)) ≡ true
+
+  -- a pending replica has none
+  new-sourced : (k : ℕ) → k < size m → Sourced z (installed w z) k
+  unfolding Sourced u replicaAt
+  new-sourced k h =
+      rw (next-pending w (size-of f) hz hn m o few k h, read-words pending (pending-proper Z 1 (omega arith) .few))
+      (pending-origin u z (installed w z))
+
+  -- a source is of an installed configuration, which stays as it was
+  source-kept : (z′ j : ℕ) → z′ < Z → j < 8 → (g : ℕ) → 1 ≤ j → hasMember (members w z′ (j - 1)) g ≡ true → isPending (source w z′ j g) ≡ false
+      → (hasMember (members u z′ (j - 1)) g ≡ true) × (isPending (source u z′ j g) ≡ false)
+  unfolding u replicaAt
+  source-kept z′ j hz′ hj g h e q = go (ℕ-discrete z z′) (ℕ-discrete (installed w z) (j - 1))
+    where
+      hj′ : j - 1 < 8
+      hj′ = omega arith
+
+      k : ℕ
+      k = replicaNumber (members w z′ (j - 1)) g
+
+      number : k < size (members w z′ (j - 1))
+      number = number-below (members w z′ (j - 1)) g e
+
+      keep : (z ≡ z′ → installed w z ≡ j - 1 → ⊥) → (hasMember (members u z′ (j - 1)) g ≡ true) × (isPending (source u z′ j g) ≡ false)
+      keep ne =
+          let s = u-members z′ (j - 1) hj′ ne in
+          let small : k < 4 = omega (arith, number, size-few f hz′ hj′) in
+          let p = next-parts w (size-of f) hz hn m o few z′ (j - 1) k hj′ small (λ a b c. ne a b) in
+          (rw s e, rw (source-place u z′ j g, s, p) (rw (source-place w z′ j g) at q))
+
+      go : Dec (z ≡ z′) → Dec (installed w z ≡ j - 1) → (hasMember (members u z′ (j - 1)) g ≡ true) × (isPending (source u z′ j g) ≡ false)
+      go (yes a) (yes b) = absurd (omega (arith, number, size-none _ (subst₂ (λ (x y : ℕ). members w x y ≡ 0) a b none-there)))
+      go (yes a) (no b) = keep (λ x y. b y)
+      go (no a) d = keep (λ x y. a x)
+
+  old-sourced : (z′ j k : ℕ) → z′ < Z → j < 8 → k < size (members w z′ j) → (z ≡ z′ → installed w z ≡ j → ⊥) → Sourced z′ j k
+  unfolding Sourced u replicaAt
+  old-sourced z′ j k hz′ hj hk ne =
+      rw (next-parts w (size-of f) hz hn m o few z′ j k hj (omega (arith, size-few f hz′ hj)) (λ a b q. ne a b))
+      (origin-stays w u z′ j (readReplica (part w (place z′ j k))) (source-kept z′ j hz′ hj) (f .origins z′ j k hz′ hj hk))
+
+  u-sourced : (z′ j k : ℕ) → z′ < Z → j < 8 → k < size (members u z′ j) → Sourced z′ j k
+  u-sourced z′ j k hz′ hj hk = go (ℕ-discrete z z′) (ℕ-discrete (installed w z) j)
+    where
+      old : (z ≡ z′ → installed w z ≡ j → ⊥) → Sourced z′ j k
+      old ne = old-sourced z′ j k hz′ hj (rw (u-members z′ j hj ne) at hk) ne
+
+      go : Dec (z ≡ z′) → Dec (installed w z ≡ j) → Sourced z′ j k
+      go (yes a) (yes b) =
+          subst₂ (λ (x y : ℕ). Sourced x y k) a b
+          (new-sourced k (rw new-members at (subst₂ (λ (x y : ℕ). k < size (members u x y)) (sym a) (sym b) hk)))
+      go (yes a) (no b) = old (λ x y. b y)
+      go (no a) d = old (λ x y. a x)
+
   pub next-keeps : WellFormed Z (installNext w z m o)
-  unfolding Good u
+  unfolding Good Sourced u
   next-keeps =
       record {
         shards = ap shardsOf (next-length w (size-of f) hz hn m o few ∙ sym (size-of f)) ∙ f .shards;
@@ -148,6 +214,7 @@ module _ {Z : ℕ} {w : List ℕ} (f : WellFormed Z w) {z : ℕ} (hz : z < Z) (h
         head = u-heads;
         differ = λ a b ha hb e. f .differ a b ha hb (sym (u-sequencer b) ∙ e ∙ u-sequencer a);
         parts = u-parts;
+        origins = u-sourced;
       }
 
 -- ---- the entry that an install reads

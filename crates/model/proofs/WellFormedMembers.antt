@@ -7,9 +7,10 @@ use mathlib.Core.List.{List, [], _∷_}
 use lib.Dec.{leb, ltb, eqb}
 use lib.Count.{ones}
 use borrow.Author.Tests.{leb-true, ltb-true, lt-ltb, eqb-true}
-use Rattle.model.specs.Members.{isHost, size, hasMember, isMemberSet, isConfiguration}
+use Rattle.model.specs.Members.{isHost, size, hasMember, replicaNumber, isMemberSet, isConfiguration}
 use Rattle.model.specs.Layout.{place, members, orderer, isInstalled, part, replicaAt}
 use Rattle.model.specs.Configuration.{configuration, replicaOf}
+use Rattle.model.specs.Origins.{isOriginOf}
 use Rattle.model.specs.WellFormed.{isPart, isHeadOf}
 use Rattle.model.proofs.Tests.{both, all-pass}
 use Rattle.model.proofs.Places.{replica-place}
@@ -79,3 +80,7 @@ module _ {Z : ℕ} {w : List ℕ} (f : WellFormed Z w) {z j : ℕ} (hz : z < Z) 
   pub member-proper : (h : ℕ) → hasMember (members w z j) h ≡ true → Proper Z j (replicaOf w (configuration w z j) h)
   unfolding replicaOf
   member-proper h e = rw (replica-place w z j h) (replica-proper (number-below (members w z j) h e))
+
+  pub member-origin : (h : ℕ) → hasMember (members w z j) h ≡ true → isOriginOf w z j (replicaOf w (configuration w z j) h) ≡ true
+  unfolding replicaOf
+  member-origin h e = rw (replica-place w z j h) (f .origins z j (replicaNumber (members w z j) h) hz hj (number-below (members w z j) h e))

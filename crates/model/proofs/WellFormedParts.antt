@@ -110,15 +110,17 @@ pub record Vacant (r : Replica) : Type 0 where
   pub mode-none : r .mode ≡ 0
   pub history-none : length (r .history) ≡ 0
   pub stable-none : r .stable ≡ 0
+  pub origin-none : r .origin ≡ 0
 
 pub vacant : (r : Replica) → isUnused r ≡ true → Vacant r
 unfolding isUnused
 vacant r e =
-    let p = all-pass (eqb (r .mode) 0) (eqb (length (r .history)) 0 ∷ eqb (r .stable) 0 ∷ []) e in
+    let p = all-pass (eqb (r .mode) 0) (eqb (length (r .history)) 0 ∷ eqb (r .stable) 0 ∷ eqb (r .origin) 0 ∷ []) e in
     record {
       mode-none = eqb-true (r .mode) 0 (p .0);
       history-none = eqb-true (length (r .history)) 0 (p .1 .0);
       stable-none = eqb-true (r .stable) 0 (p .1 .1 .0);
+      origin-none = eqb-true (r .origin) 0 (p .1 .1 .1 .0);
     }
 
 -- ---- a replica's 64 words

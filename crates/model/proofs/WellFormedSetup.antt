@@ -5,20 +5,23 @@ use mathlib.Core.Path.{_≡_, refl, sym, ap, _∙_, subst}
 use mathlib.Core.Bool.{Bool, true, false, cond}
 use mathlib.Core.List.{List, [], _∷_}
 use native.Mathlib.Decide.{ℕ-discrete}
-use lib.Dec.{ltb, eqb}
+use lib.Dec.{ltb, eqb, lit≤}
 use lib.ListN.{length}
 use borrow.Author.Tests.{leb-true, le-ltb, eq-eqb, ne-eqb}
 use Rattle.model.specs.Tests.{allBelow}
 use Rattle.model.specs.Checks.{_orElse_}
 use Rattle.model.specs.Members.{size, isConfiguration}
 use Rattle.model.specs.Replicas.{replicaWords, fresh, unused}
-use Rattle.model.specs.Layout.{shardsOf, isStateLength, place, isInstalled, members, part}
+use Rattle.model.specs.Layout.{shardsOf, isStateLength, place, isInstalled, members, part, replicaAt}
+use Rattle.model.specs.Origins.{isOriginOf}
 use Rattle.model.specs.WellFormed.{isPart, isSequencer, allDiffer, isHeadOf, wellFormed}
 use Rattle.model.specs.Setup.{planSequencer, planMembers, planOrderer, isPlannedShard, isPlan}
 use Rattle.model.specs.Setup.{setupRejection, initialReplica, initialState, afterSetup}
 use Rattle.model.proofs.Tests.{both, all-pass, all-below}
 use Rattle.model.proofs.Lengths.{length-of-shards}
 use Rattle.model.proofs.Checks.{passed}
+use Rattle.model.proofs.Parts.{read-words}
+use Rattle.model.proofs.Origins.{no-source}
 use Rattle.model.proofs.WellFormedParts.{is-proper, replica-part, unused-part}
 use Rattle.model.proofs.WellFormed.{Head, WellFormed, is-well-formed, all-differ}
 use Rattle.model.proofs.WellFormedMembers.{configured, size-none}
@@ -49,6 +52,22 @@ either-part : (Z j : ℕ) (b : Bool) → isPart Z j b (replicaWords (cond b fres
 either-part Z j true = replica-part Z j fresh (is-proper Z j fresh (fresh-proper Z j))
 either-part Z j false = unused-part Z j
 
+pub initial-short : (m n : ℕ) → length (initialReplica m n .history) ≤ 56
+unfolding initialReplica fresh unused
+initial-short m n = go (ltb n (size m))
+  where
+    go : (t : Bool) → length (cond t fresh unused .history) ≤ 56
+    go true = lit≤ tt
+    go false = lit≤ tt
+
+initial-no-origin : (m n : ℕ) → initialReplica m n .origin ≡ 0
+unfolding initialReplica fresh unused
+initial-no-origin m n = go (ltb n (size m))
+  where
+    go : (t : Bool) → cond t fresh unused .origin ≡ 0
+    go true = refl
+    go false = refl
+
 module _ (Z : ℕ) (p : List ℕ) (n : Planned Z p) where
   module _ {z : ℕ} (hz : z < Z) where
     -- the replicas in use are those of members
@@ -66,6 +85,20 @@ module _ (Z : ℕ) (p : List ℕ) (n : Planned Z p) where
     unfolding initialReplica
     initial-parts j k hj hk =
         rw (initial-part Z p hz hj hk, in-use j k hj hk) (either-part Z j (ltb k (size (members (initialState Z p) z j))))
+
+    -- the first configuration's replicas have no source, and no other has members
+    initial-sourced : (j k : ℕ) → j < 8 → k < size (members (initialState Z p) z j)
+        → isOriginOf (initialState Z p) z j (replicaAt (initialState Z p) (place z j k)) ≡ true
+    unfolding replicaAt
+    initial-sourced zero k hj hk =
+        let c = configured (planMembers p z) (planOrderer p z) (n .configuration z hz) in
+        let few : k < size (planMembers p z) = rw (initial-members Z p hz) at hk in
+        let small : k < 4 = omega (arith, c .size-most) in
+        no-source (initialState Z p) z 0 _ refl
+        (rw (initial-part Z p hz hj small, read-words (initialReplica (planMembers p z) (0 * 4 + k)) (initial-short (planMembers p z) (0 * 4 + k)))
+        (initial-no-origin (planMembers p z) (0 * 4 + k)))
+    initial-sourced (suc j) k hj hk =
+        absurd (omega (arith, hk, size-none (members (initialState Z p) z (suc j)) (initial-members-later Z p hz (omega arith) hj)))
 
     initial-configured : (j : ℕ) → j < 8 → isHeadOf (initialState Z p) z j ≡ true
     unfolding isHeadOf isInstalled
@@ -98,6 +131,7 @@ module _ (Z : ℕ) (p : List ℕ) (n : Planned Z p) where
             let hb′ : b < Z = omega arith in
             n .differ a b ha hb (sym (initial-sequencer Z p hb′) ∙ q ∙ initial-sequencer Z p ha);
         parts = λ z j k hz hj hk. initial-parts hz j k hj hk;
+        origins = λ z j k hz hj hk. initial-sourced hz j k hj hk;
       }
 
 -- ---- setup

@@ -6,11 +6,12 @@ use mathlib.Core.List.{List}
 use native.Mathlib.Decide.{ℕ-discrete}
 use lib.Dec.{eqb}
 use lib.ListN.{length}
-use borrow.Author.Tests.{eq-eqb, ne-eqb}
+use borrow.Author.Tests.{ltb-true, eq-eqb, ne-eqb}
 use Rattle.model.specs.declared.kind.Kind.{Kind}
 use Rattle.model.specs.declared.kind.Kind.the-variants.{Add, Adopt, Learn, Wedge, Install, Inherit, Kept, Unknown}
 use Rattle.model.specs.declared.step.Step.{Step}
 use Rattle.model.specs.Kinds.{kindOf}
+use Rattle.model.specs.Members.{isHost}
 use Rattle.model.specs.Entries.{isEntry}
 use Rattle.model.specs.Layout.{shardsOf}
 use Rattle.model.specs.WellFormed.{wellFormed}
@@ -23,13 +24,13 @@ use Rattle.model.proofs.WellFormedInstall.{install-keeps}
 
 kind-keeps : (k : Kind) {Z : ℕ} {w : List ℕ} → WellFormed Z w → {z j : ℕ} → z < Z → j < 8 → (c d : ℕ) → areNumbers k Z c d ≡ true
     → AllPass (kindChecks k w z j c d) → WellFormed Z (kindEffect k w z j c d)
-unfolding areNumbers kindChecks kindEffect
+unfolding areNumbers isHost kindChecks kindEffect
 kind-keeps Add {Z} f hz hj c d n p = add-keeps f hz hj c (both (isEntry Z c) (eqb d 0) .0 n .0) p
 kind-keeps Adopt f hz hj c d n p = adopt-keeps f hz hj c p
 kind-keeps Learn f hz hj c d n p = learn-keeps f hz hj c d p
 kind-keeps Wedge f hz hj c d n p = wedge-keeps f hz hj c p
 kind-keeps Install f hz hj c d n p = install-keeps f hz hj c d p
-kind-keeps Inherit f hz hj c d n p = inherit-keeps f hz hj c d p
+kind-keeps Inherit f hz hj c d n p = inherit-keeps f hz hj c d (ltb-true d 16 (both (isHost c) (isHost d) .0 n .1)) p
 kind-keeps Kept f hz hj c d n p = f
 kind-keeps Unknown f hz hj c d n p = f
 

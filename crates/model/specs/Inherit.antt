@@ -26,4 +26,4 @@ inheritChecks w z j h g =
     ∷ []
 
 unfoldable pub inheritEffect : List ℕ → ℕ → ℕ → ℕ → ℕ → List ℕ
-inheritEffect w z j h g = putReplica w (replicaPlace (configuration w z j) h) (inherited (source w z j g))
+inheritEffect w z j h g = putReplica w (replicaPlace (configuration w z j) h) (inherited g (source w z j g))

@@ -1,4 +1,4 @@
--- What a reader has to believe: document 01, and the requests of document 02 that change it (A2), as definitions, and the claims that are proved of them.
+-- What a reader has to believe: document 01, and the requests of document 02 that change it (A2, A3), as definitions, and the claims that are proved of them.
 pub mod Tests
 pub mod Checks
 pub mod Kinds
@@ -8,6 +8,7 @@ pub mod Entries
 pub mod Replicas
 pub mod Layout
 pub mod Configuration
+pub mod Origins
 pub mod WellFormed
 pub mod Setup
 pub mod Add
@@ -28,6 +29,7 @@ pub mod Runs
 pub mod Reference
 pub mod OneList
 pub mod OneIssue
+pub mod Sources
 pub mod StableGrowth
 pub mod LongerLogs
 pub mod Appointed

@@ -110,6 +110,10 @@ replaced =
 unfoldable pub goneOn : List Step
 goneOn = inherit 1 2 3 3 ∷ inherit 1 2 5 3 ∷ add 1 2 13 ∷ adopt 1 2 5 ∷ learn 1 2 5 2 ∷ []
 
+-- .. host 2 is wedged too, each of the new hosts inherits from another one, the new orderer adds take 13 and the other adopts it
+unfoldable pub twoSources : List Step
+twoSources = wedge 1 1 2 ∷ inherit 1 2 3 3 ∷ inherit 1 2 5 2 ∷ add 1 2 13 ∷ adopt 1 2 5 ∷ []
+
 -- what `replaced` leaves but for the replicas of index 2
 unfoldable pub heads : List (ℕ × List ℕ)
 heads =
@@ -140,9 +144,12 @@ pub record Effects : Type 0 where
   pub wedges : Leaves (wedge 0 1 1 ∷ []) ((128, 3 ∷ []) ∷ [])
   -- count, member set and orderer; the members' replicas pending
   pub installs : Leaves replaced (heads ++ ((2432, 1 ∷ []) ∷ (2496, 1 ∷ []) ∷ []))
-  -- the history and the stable length of the source; then what the new configuration adds, adopts and confirms
+  -- the history and the stable length of the source, and its host + 1; then what the new configuration adds, adopts and confirms
   pub inherits : Leaves (replaced ++ goneOn)
-      (heads ++ ((2432, 2 ∷ 2 ∷ 1 ∷ []) ∷ (2440, 12 ∷ 13 ∷ []) ∷ (2496, 2 ∷ 2 ∷ 2 ∷ []) ∷ (2504, 12 ∷ 13 ∷ []) ∷ []))
+      (heads ++ ((2432, 2 ∷ 2 ∷ 1 ∷ 4 ∷ []) ∷ (2440, 12 ∷ 13 ∷ []) ∷ (2496, 2 ∷ 2 ∷ 2 ∷ 4 ∷ []) ∷ (2504, 12 ∷ 13 ∷ []) ∷ []))
+  -- two sources: the host that adopts keeps its own
+  pub origins : Leaves (replaced ++ twoSources)
+      (heads ++ ((2176, 3 ∷ []) ∷ (2432, 2 ∷ 2 ∷ 1 ∷ 4 ∷ []) ∷ (2440, 12 ∷ 13 ∷ []) ∷ (2496, 2 ∷ 2 ∷ 1 ∷ 3 ∷ []) ∷ (2504, 12 ∷ 13 ∷ []) ∷ []))
 
 -- "Setup: 1, 2.": no state has this length, and no plan this
 abbrev pub SetupOrder : Type 0

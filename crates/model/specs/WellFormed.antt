@@ -8,7 +8,8 @@ use Rattle.model.specs.Tests.{allBelow, allOf, same}
 use Rattle.model.specs.Members.{size, isConfiguration}
 use Rattle.model.specs.Entries.{isEntry}
 use Rattle.model.specs.Replicas.{Replica, mostEntries, readReplica, replicaWords, isPending}
-use Rattle.model.specs.Layout.{shardsOf, place, headWord, sequencer, installed, members, orderer, isInstalled, part}
+use Rattle.model.specs.Layout.{shardsOf, place, headWord, sequencer, installed, members, orderer, isInstalled, part, replicaAt}
+use Rattle.model.specs.Origins.{isOriginOf}
 
 -- a member's replica: "seats of members have mode 1 to 3 .. a pending seat has an empty list and is not of index 1; confirmed is at most the
 -- length; entries are proper"; "list length, 0 to 56"
@@ -20,7 +21,7 @@ isReplica Z j r =
 
 -- "all other seats .. are 0"
 unfoldable pub isUnused : Replica → Bool
-isUnused r = eqb (r .mode) 0 && eqb (length (r .history)) 0 && eqb (r .stable) 0
+isUnused r = eqb (r .mode) 0 && eqb (length (r .history)) 0 && eqb (r .stable) 0 && eqb (r .origin) 0
 
 -- the 64 words of a replica of configuration j: just the words of what they hold, which is proper for a member's or another's replica
 unfoldable pub isPart : ℕ → ℕ → Bool → List ℕ → Bool
@@ -41,10 +42,11 @@ isHeadOf w z j =
     cond (isInstalled w z j) (isConfiguration (members w z j) (orderer w z j))
     (eqb (members w z j) 0 && eqb (orderer w z j) 0)
 
--- configuration j of shard z: its head words and its four replicas
+-- configuration j of shard z: its head words, its four replicas, and the origins of those of members
 unfoldable pub isConfigurationOf : List ℕ → ℕ → ℕ → ℕ → Bool
 isConfigurationOf w Z z j =
     isHeadOf w z j && allBelow 4 (λ k. isPart Z j (ltb k (size (members w z j))) (part w (place z j k)))
+    && allBelow (size (members w z j)) (λ k. isOriginOf w z j (replicaAt w (place z j k)))
 
 -- shard z: its sequencer; "1 to 8 installed"; its configurations; "The rest are 0"
 unfoldable pub isShard : List ℕ → ℕ → ℕ → Bool

@@ -20,10 +20,14 @@ pub const REST: usize = 18;
 
 pub const REST_WORDS: usize = 46;
 
-// A replica's words: its history's length, its stable length, and where its entries begin. The mode is the first.
+// A replica's words: its history's length, its stable length, its origin, the words that are 0, and where its entries begin. The mode is the first.
 pub const LENGTH: usize = 1;
 
 pub const STABLE: usize = 2;
+
+pub const ORIGIN: usize = 3;
+
+pub const RESERVED: usize = 4;
 
 pub const ENTRIES: usize = 8;
 

@@ -23,7 +23,7 @@ use Rattle.lookup.specs.declared.Seat.{Seat}
 use Rattle.lookup.specs.Ready.{ReadyHost, Placed, HoldsReplica}
 use Rattle.lookup.specs.Seats.{seatOf}
 use Rattle.lookup.specs.Kinds.{kindAnswer, kindAfter}
-use Rattle.lookup.proofs.Fields.{active-word}
+use Rattle.model.proofs.Fields.{active-word}
 use Rattle.lookup.proofs.Words.{length-word}
 use Rattle.lookup.proofs.Seats.{At, at-found, words-at}
 use Rattle.lookup.proofs.Orderers.{ordered, orderer-host, orderer-replica}

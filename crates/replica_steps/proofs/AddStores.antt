@@ -37,7 +37,7 @@ unfolding replicaWords added
 words-added r e n q h =
     let more : n + 1 ≡ length (r .history ++ (e ∷ [])) = simp length-append (omega arith) in
     ap (λ (l : List ℕ). set l 1 (n + 1))
-    (entry-stored (r .mode ∷ length (r .history) ∷ r .stable ∷ 0 ∷ 0 ∷ 0 ∷ 0 ∷ 0 ∷ []) (r .history) e n refl q h)
+    (entry-stored (r .mode ∷ length (r .history) ∷ r .stable ∷ r .origin ∷ 0 ∷ 0 ∷ 0 ∷ 0 ∷ []) (r .history) e n refl q h)
     ∙ ap (λ (l : ℕ). set (replicaWords (added e r)) 1 l) more
 
 pub store-added : (w : List ℕ) (at e n : ℕ) (r : Replica) → part w at ≡ replicaWords r → length (r .history) ≡ n → n < 56

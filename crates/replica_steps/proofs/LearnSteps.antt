@@ -20,7 +20,7 @@ use Rattle.lookup.specs.declared.Seat.{Seat}
 use Rattle.lookup.specs.Ready.{ReadyHost, Placed}
 use Rattle.lookup.specs.Seats.{seatOf}
 use Rattle.lookup.specs.Kinds.{ReadyKind, kindAnswer, kindAfter}
-use Rattle.lookup.proofs.Fields.{active-word, stable-word}
+use Rattle.model.proofs.Fields.{active-word, stable-word}
 use Rattle.lookup.proofs.Seats.{At, at-found, early, words-at}
 use Rattle.lookup.proofs.Stores.{store-stable}
 use Rattle.lookup.proofs.KindAnswers.{rejects, accepts, fourth-small, ready-host}

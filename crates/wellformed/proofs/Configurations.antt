@@ -3,7 +3,7 @@ use Prim.Native.Nat.{ℕ, _+_, _*_, _/_, _%_, _≤_, _<_}
 use native.Mathlib.Nat.{div-add-mod', mod-lt}
 use native.Mathlib.Omega.{arith}
 use mathlib.Core.Path.{_≡_, sym, ap, subst, _∙_}
-use mathlib.Core.Bool.{Bool, true, false, _&&_, and-false}
+use mathlib.Core.Bool.{Bool, true, false, _&&_, and-true, and-false}
 use mathlib.Core.List.{List}
 use lib.Dec.{ltb, eqb}
 use lib.Count.{ones}
@@ -11,10 +11,12 @@ use lib.ListN.{length, getD, take, drop}
 use borrow.Author.Tests.{lt-ltb, le-ltb, ne-eqb}
 use Rattle.model.specs.Tests.{allBelow}
 use Rattle.model.specs.Members.{isConfiguration}
-use Rattle.model.specs.Layout.{place, isInstalled, part}
+use Rattle.model.specs.Layout.{place, isInstalled, part, replicaAt}
+use Rattle.model.specs.Origins.{isOriginOf}
 use Rattle.model.specs.WellFormed.{isPart, isHeadOf, isConfigurationOf}
 use Rattle.model.proofs.Tests.{all-below, below-all}
 use Rattle.model.proofs.Ranges.{same-test, alike}
+use Rattle.model.proofs.WellFormedMembers.{configured}
 use Rattle.wellformed.proofs.Zeros.{zeros, part-length, zeros-at}
 use Rattle.wellformed.proofs.Words.{unused-words}
 use Rattle.model.proofs.Heads.{installed-word, members-word, orderer-word}
@@ -69,25 +71,39 @@ firstPlace z j = z * 2112 + 64 + j * 256
 abbrev pub areParts : List ℕ → ℕ → ℕ → ℕ → ℕ → Bool
 areParts w Z j p n = allBelow 4 (λ k. isPart Z j (ltb k n) (part w (p + k * 64)))
 
+-- the origins of the first n
+abbrev pub areOrigins : List ℕ → ℕ → ℕ → ℕ → Bool
+areOrigins w z j n = allBelow n (λ k. isOriginOf w z j (replicaAt w (place z j k)))
+
+-- a proper member set is small
+pub proper-few : (m o n : ℕ) → true ≡ isConfiguration m o → n ≡ ones m → n ≤ 4
+proper-few m o n e d = omega (arith, d, configured m o (sym e) .size-most)
+
 module _ (w : List ℕ) (Z z j : ℕ) where
   -- where the configuration is installed
   in-place : j < countWord w z → isConfigurationOf w Z z j
-      ≡ (isConfiguration (membersWord w z j) (ordererWord w z j) && areParts w Z j (firstPlace z j) (ones (membersWord w z j)))
+      ≡ (isConfiguration (membersWord w z j) (ordererWord w z j) && areParts w Z j (firstPlace z j) (ones (membersWord w z j))
+      && areOrigins w z j (ones (membersWord w z j)))
   unfolding isConfigurationOf isHeadOf isInstalled place
   in-place h = rw (installed-word w z, members-word w z j, orderer-word w z j, lt-ltb j (countWord w z) h)
 
   -- where it is not
   not-in-place : countWord w z ≤ j → isConfigurationOf w Z z j
-      ≡ (eqb (membersWord w z j) 0 && eqb (ordererWord w z j) 0 && areParts w Z j (firstPlace z j) (ones (membersWord w z j)))
+      ≡ (eqb (membersWord w z j) 0 && eqb (ordererWord w z j) 0 && areParts w Z j (firstPlace z j) (ones (membersWord w z j))
+      && areOrigins w z j (ones (membersWord w z j)))
   unfolding isConfigurationOf isHeadOf isInstalled place
   not-in-place h = rw (installed-word w z, members-word w z j, orderer-word w z j, le-ltb j (countWord w z) h)
 
   pub improper : j < countWord w z → false ≡ isConfiguration (membersWord w z j) (ordererWord w z j) → false ≡ isConfigurationOf w Z z j
   improper h e = rw (in-place h, ← e)
 
-  pub proper-members : (n : ℕ) → j < countWord w z → true ≡ isConfiguration (membersWord w z j) (ordererWord w z j)
-      → n ≡ ones (membersWord w z j) → areParts w Z j (firstPlace z j) n ≡ isConfigurationOf w Z z j
-  proper-members n h e d = rw (in-place h, ← e, d)
+  pub wrong-parts : (n : ℕ) → j < countWord w z → true ≡ isConfiguration (membersWord w z j) (ordererWord w z j)
+      → n ≡ ones (membersWord w z j) → false ≡ areParts w Z j (firstPlace z j) n → false ≡ isConfigurationOf w Z z j
+  wrong-parts n h e d p = rw (in-place h, ← e, ← d, ← p)
+
+  pub proper-parts : (n : ℕ) → j < countWord w z → true ≡ isConfiguration (membersWord w z j) (ordererWord w z j)
+      → n ≡ ones (membersWord w z j) → true ≡ areParts w Z j (firstPlace z j) n → areOrigins w z j n ≡ isConfigurationOf w Z z j
+  proper-parts n h e d p = rw (in-place h, ← e, ← d, ← p)
 
   pub some-members : countWord w z ≤ j → (membersWord w z j ≡ 0 → ⊥) → false ≡ isConfigurationOf w Z z j
   some-members h n = rw (not-in-place h, ne-eqb (membersWord w z j) 0 n)
@@ -97,5 +113,5 @@ module _ (w : List ℕ) (Z z j : ℕ) where
 
   pub no-members : firstPlace z j + 256 ≤ length w → countWord w z ≤ j → membersWord w z j ≡ 0 → ordererWord w z j ≡ 0
       → zeros (take 256 (drop (firstPlace z j) w)) ≡ isConfigurationOf w Z z j
-  unfolding ones
-  no-members f h m o = rw (not-in-place h, m, o) (no-parts w Z j (firstPlace z j) f)
+  unfolding ones allBelow
+  no-members f h m o = rw (not-in-place h, m, o) (no-parts w Z j (firstPlace z j) f ∙ sym (and-true _))

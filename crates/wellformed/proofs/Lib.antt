@@ -3,5 +3,6 @@ pub mod Zeros
 pub mod Words
 pub mod Heads
 pub mod Configurations
+pub mod Origins
 pub mod Shards
 pub mod Takes

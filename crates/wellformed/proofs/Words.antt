@@ -24,7 +24,7 @@ pub record Used (Z j : ℕ) (p : List ℕ) : Type 0 where
   pub few : getD p 1 0 ≤ 56
   pub stable-most : getD p 2 0 ≤ getD p 1 0
   pub waits : getD p 0 0 ≡ 1 → (getD p 1 0 ≡ 0) × (1 ≤ j)
-  pub reserved : zeros (take 5 (drop 3 p)) ≡ true
+  pub reserved : zeros (take 4 (drop 4 p)) ≡ true
   pub entries : allOf (isEntry Z) (take (getD p 1 0) (drop 8 p)) ≡ true
   pub rest : zeros (drop (8 + getD p 1 0) p) ≡ true
 
@@ -58,14 +58,14 @@ used-of Z j (eight a b c d e f g h t) pass =
     let w : p ≡ replicaWords (readReplica p) = part-is-words Z j true p pass in
     let n : b ≡ length (take b t) = cc in
     let s : t ≡ take b t ++ replicate (56 - length (take b t)) 0 = cc in
-    let z : d ∷ e ∷ f ∷ g ∷ h ∷ [] ≡ 0 ∷ 0 ∷ 0 ∷ 0 ∷ 0 ∷ [] = cc in
+    let z : e ∷ f ∷ g ∷ h ∷ [] ≡ 0 ∷ 0 ∷ 0 ∷ 0 ∷ [] = cc in
     record {
       mode-least = r .mode-least;
       mode-most = r .mode-most;
       few = omega (arith, r .few);
       stable-most = omega (arith, r .stable-most);
       waits = λ m. let k = r .waits (eq-eqb a 1 m) in (n ∙ k .0, k .1);
-      reserved = ap zeros z ∙ zeros-replicate 5;
+      reserved = ap zeros z ∙ zeros-replicate 4;
       entries = r .entries;
       rest = ap zeros (sym (drop-drop b 8 p) ∙ tail-of b t n s) ∙ zeros-replicate (56 - length (take b t));
     }
@@ -85,7 +85,7 @@ of-used Z j (eight a b c d e f g h t) l u =
     let p : List ℕ = a ∷ b ∷ c ∷ d ∷ e ∷ f ∷ g ∷ h ∷ t in
     let m : length t ≡ 56 = omega arith in
     let n : length (take b t) ≡ b = length-take-le b t (omega (arith, u .few)) in
-    let z : d ∷ e ∷ f ∷ g ∷ h ∷ [] ≡ 0 ∷ 0 ∷ 0 ∷ 0 ∷ 0 ∷ [] = replicate-zeros (d ∷ e ∷ f ∷ g ∷ h ∷ []) 5 refl (u .reserved) in
+    let z : e ∷ f ∷ g ∷ h ∷ [] ≡ 0 ∷ 0 ∷ 0 ∷ 0 ∷ [] = replicate-zeros (e ∷ f ∷ g ∷ h ∷ []) 4 refl (u .reserved) in
     let k : length (drop b t) ≡ 56 - length (take b t) = omega (arith, length-drop b t) in
     let x : drop b t ≡ replicate (56 - length (take b t)) 0 =
     replicate-zeros (drop b t) (56 - length (take b t)) k (ap zeros (drop-drop b 8 p) ∙ u .rest) in
@@ -113,7 +113,7 @@ unused-of Z j (eight a b c d e f g h t) pass =
     let y : b ≡ 0 = n ∙ r .history-none in
     let s : t ≡ take b t ++ replicate (56 - length (take b t)) 0 = cc in
     let x : t ≡ replicate 56 0 = rw y at s in
-    cc (r .mode-none, r .stable-none)
+    cc (r .mode-none, r .stable-none, r .origin-none)
 
 -- ---- both
 

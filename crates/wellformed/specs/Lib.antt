@@ -1,2 +1,3 @@
 -- What the functions of this crate require.
 pub mod Spaced
+pub mod Before

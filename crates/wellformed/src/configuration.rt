@@ -1,5 +1,6 @@
 // A configuration: its head words and its four replicas.
 use crate::members;
+use crate::origin;
 use crate::replica;
 use model::configuration::Configuration;
 use model::layout::CONFIGURATION_WORDS;
@@ -16,6 +17,7 @@ ghost use lib.ListN.{length};
 ghost use Rattle.model.specs.Tests.{allBelow};
 ghost use Rattle.model.specs.Layout.{shardWords, configurationWords, partWords, part};
 ghost use Rattle.model.specs.WellFormed.{isPart, isConfigurationOf};
+ghost use Rattle.wellformed.specs.Before.{FewBefore};
 
 // Whether the four replicas at a place are those of configuration j, the first `size` of them members'.
 pub fn all_parts(state: &[u64], shards: usize, j: usize, place: usize, size: usize) -> bool
@@ -37,6 +39,7 @@ pub fn all_parts(state: &[u64], shards: usize, j: usize, place: usize, size: usi
 // Whether configuration j of shard z is well-formed.
 pub fn is_configuration_of(state: &[u64], shards: usize, z: usize, j: usize) -> bool
     requires { ⌜ (z * shardWords + shardWords ≤ length (now state)) × (j < 8) ⌝ }
+    requires { ⌜ FewBefore (now state) z j ⌝ }
     ensures { λ r. ⌜ r ≡ isConfigurationOf (now (state .entry)) shards z j ⌝ }
 {
     let at = z * SHARD_WORDS;
@@ -50,7 +53,11 @@ pub fn is_configuration_of(state: &[u64], shards: usize, z: usize, j: usize) -> 
         if !members::is_configuration(c.members, c.orderer) {
             return false;
         }
-        return all_parts(state, shards, j, place, c.size() as usize);
+        let size = c.size() as usize;
+        if !all_parts(state, shards, j, place, size) {
+            return false;
+        }
+        return origin::all_origins(state, z, j, size);
     }
     if c.members != 0 {
         return false;

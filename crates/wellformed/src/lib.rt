@@ -8,6 +8,7 @@ ghost use Rattle.model.specs.Replay.{replayRejection};
 mod configuration;
 pub mod entry;
 pub mod members;
+mod origin;
 mod replica;
 pub mod sequencer;
 pub mod shard;

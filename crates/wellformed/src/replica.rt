@@ -4,6 +4,7 @@ use model::layout::ENTRIES;
 use model::layout::LENGTH;
 use model::layout::MOST_ENTRIES;
 use model::layout::PENDING;
+use model::layout::RESERVED;
 use model::layout::STABLE;
 ghost use mathlib.Core.Path.{_≡_};
 ghost use mathlib.Core.Bool.{true, not, _&&_, _||_};
@@ -101,7 +102,7 @@ pub fn is_replica(words: &[u64], shards: usize, j: usize) -> bool
     if !may_wait(mode, len, j) {
         return false;
     }
-    if !all_zero(&words[3..ENTRIES]) {
+    if !all_zero(&words[RESERVED..ENTRIES]) {
         return false;
     }
     let end = ENTRIES + (len as usize);

@@ -121,9 +121,18 @@ slice-read-smaller c = search needs
 smaller-requires : tie.Need-smaller-requires
 smaller-requires c κs = search needs
 
+add-origin : tie.Need-add-origin
+add-origin c = search needs
+
+mul-origin : tie.Need-mul-origin
+mul-origin c = search needs
+
+slice-read-origin : tie.Need-slice-read-origin
+slice-read-origin c = search needs
+
 copy-replica-requires : tie.Need-copy-replica-requires
 copy-replica-requires c κs =
-    let o = c .before .before .before .before .before .before .before .before in
+    let o = c .before .before .before .before .before .before .before .before .before in
     let a = o .before .before in
     let k = a .before .before .before .before in
     let i = k .before .before in
@@ -139,7 +148,7 @@ same-length-5 c = search needs
 
 returns-6 : tie.Need-returns-6
 returns-6 c =
-    let m = c .before .before .before .before in
+    let m = c .before .before .before .before .before in
     let g = m .before .before .before .before .before in
     let o = g .before .before in
     let a = o .before .before in
@@ -183,6 +192,9 @@ adopt-spec =
     mul-smaller
     slice-read-smaller
     smaller-requires
+    add-origin
+    mul-origin
+    slice-read-origin
     copy-replica-requires
     same-length-5
     returns-6)

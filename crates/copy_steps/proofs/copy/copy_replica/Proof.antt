@@ -33,6 +33,9 @@ array-write-copy c = search needs
 array-write-copy-2 : tie.Need-array-write-copy-2
 array-write-copy-2 c = search needs
 
+array-write-copy-3 : tie.Need-array-write-copy-3
+array-write-copy-3 c = search needs
+
 add-end : tie.Need-add-end
 add-end c = search needs
 
@@ -67,7 +70,9 @@ returns c =
     let e = c .before .before in
     let d = e .before .before .before .before in
     let s = d .before .before .before .before .before in
-    put-copied (s .args .state .now) (s .args .p) (s .args .q) (s .pre .1) (d .copy-words .last .0) (d .copy-words .ensures) (s .args .mode) (s .args .stable) _
+    put-copied (s .args .state .now) (s .args .p) (s .args .q) (s .pre .1) (d .copy-words .last .0) (d .copy-words .ensures) (s .args .mode) (s .args .stable)
+    (s .args .origin)
+    _
     (e .copy-words2 .ensures)
 
 pub copy-replica-spec : {M : Type 1} → statement M
@@ -83,6 +88,7 @@ copy-replica-spec =
     copy-words-requires
     array-write-copy
     array-write-copy-2
+    array-write-copy-3
     add-end
     mul-copy-words-2
     sub-copy-words-2

@@ -1,4 +1,5 @@
 -- `copy_steps::inherit::inherit` meets its contract.
+use native.Mathlib.Omega.{arith}
 use Rattle.model.specs.declared.kind.Kind.the-variants.{Inherit}
 use Rattle.lookup.proofs.KindAnswers.{out-of-range}
 use Rattle.copy_steps.proofs.InheritSteps.{known, named, before, nowhere, not-pending, later, not-there, not-immutable, holds, done}
@@ -94,6 +95,13 @@ mul-stable c = search needs
 slice-read-stable : tie.Need-slice-read-stable
 slice-read-stable c = search needs
 
+add-copy-replica : tie.Need-add-copy-replica
+add-copy-replica c =
+    let m = c .before .before .before .before .before .before .before .before in
+    let f = m .before .before .before .before in
+    let n = f .before .before .before in
+    omega (arith, before (n .before .before .pre) _ _ (n .are-numbers .ensures) (f .before .before .if1 .left) .host)
+
 copy-replica-requires : tie.Need-copy-replica-requires
 copy-replica-requires c κs =
     let g = c .before .before .before .before .before .before in
@@ -143,6 +151,7 @@ inherit-spec =
     add-stable
     mul-stable
     slice-read-stable
+    add-copy-replica
     copy-replica-requires
     same-length-5
     returns-6)

@@ -7,6 +7,7 @@ use borrow.Author.Tests.{not-true, not-false}
 use Rattle.model.specs.Tests.{allBelow}
 use Rattle.model.specs.WellFormed.{isConfigurationOf}
 use Rattle.model.proofs.Ranges.{more, fails, reached}
+use Rattle.wellformed.proofs.Origins.{few-before}
 use Rattle.wellformed.proofs.configuration.all_configurations.Statement.{statement}
 use Rattle.wellformed.proofs.configuration.all_configurations.Tie as tie
 
@@ -21,7 +22,7 @@ unfolding allBelow
 loop-holds c = (omega arith, refl)
 
 is-configuration-of-requires : tie.Need-is-configuration-of-requires Inv-loop μ-loop
-is-configuration-of-requires c κs = (omega arith, omega arith)
+is-configuration-of-requires c κs = ((omega arith, omega arith), few-before _ _ _ _ (c .before .loop .inv .1))
 
 returns : tie.Need-returns Inv-loop μ-loop
 returns c =

@@ -3,7 +3,7 @@ use native.Mathlib.Nat.{add-sub-cancel-left}
 use native.Mathlib.Omega.{arith}
 use mathlib.Core.Path.{sym, _∙_}
 use borrow.Author.Tests.{not-true, not-false}
-use Rattle.wellformed.proofs.Configurations.{improper, proper-members, some-members, some-orderer, no-members}
+use Rattle.wellformed.proofs.Configurations.{improper, wrong-parts, proper-parts, proper-few, some-members, some-orderer, no-members}
 use borrow.Author.Needs.{needs}
 use Rattle.wellformed.proofs.configuration.is_configuration_of.Statement.{statement}
 use Rattle.wellformed.proofs.configuration.is_configuration_of.Tie as tie
@@ -11,14 +11,14 @@ use Rattle.wellformed.proofs.configuration.is_configuration_of.Tie as t
 mul-at : tie.Need-mul-at
 mul-at c = search needs
 
-add-t9 : tie.Need-add-t9
-add-t9 c = search needs
+add-t10 : tie.Need-add-t10
+add-t10 c = search needs
 
-mul-t10 : tie.Need-mul-t10
-mul-t10 c = search needs
+mul-t11 : tie.Need-mul-t11
+mul-t11 c = search needs
 
-add-t11 : tie.Need-add-t11
-add-t11 c = search needs
+add-t12 : tie.Need-add-t12
+add-t12 c = search needs
 
 add-if1 : tie.Need-add-if1
 add-if1 c = search needs
@@ -62,23 +62,42 @@ returns c = improper _ _ _ _ (c .before .before .if1 .taken) (sym (not-true _ (c
 size-requires : tie.Need-size-requires
 size-requires c κs = search needs
 
-cast-all-parts : tie.Need-cast-all-parts
-cast-all-parts c = search needs
+cast-size : tie.Need-cast-size
+cast-size c = search needs
 
 all-parts-requires : tie.Need-all-parts-requires
 all-parts-requires c κs = search needs
 
 returns-2 : tie.Need-returns-2
 returns-2 c =
-    let i = c .before .before in
+    let s = c .before .before in
+    let i = s .before in
     let proper = sym (not-false _ (i .if2 .left)) ∙ i .before .is-configuration .ensures in
-    c .all-parts .ensures ∙ proper-members _ _ _ _ _ (i .before .before .if1 .taken) proper (c .before .size .ensures)
+    wrong-parts _ _ _ _ _ (i .before .before .if1 .taken) proper (s .size .ensures)
+    (sym (not-true _ (c .if3 .taken)) ∙ c .before .all-parts .ensures)
+
+all-origins-requires : tie.Need-all-origins-requires
+all-origins-requires c κs =
+    let s = c .before .before in
+    let i = s .before in
+    let q = i .before .before .before .before .before .before .before .pre in
+    ((q .0 .0, q .0 .1, proper-few _ _ _ (sym (not-false _ (i .if2 .left)) ∙ i .before .is-configuration .ensures) (s .size .ensures)), q .1)
 
 returns-3 : tie.Need-returns-3
-returns-3 c = some-members _ _ _ _ (c .before .before .if1 .left) (c .if3 .taken)
+returns-3 c =
+    let p = c .before in
+    let s = p .before .before in
+    let i = s .before in
+    let proper = sym (not-false _ (i .if2 .left)) ∙ i .before .is-configuration .ensures in
+    c .all-origins .ensures
+    ∙ proper-parts _ _ _ _ _ (i .before .before .if1 .taken) proper (s .size .ensures)
+    (sym (not-false _ (p .if3 .left)) ∙ p .before .all-parts .ensures)
 
 returns-4 : tie.Need-returns-4
-returns-4 c = some-orderer _ _ _ _ (c .before .before .before .before .if1 .left) (c .if4 .taken)
+returns-4 c = some-members _ _ _ _ (c .before .before .if1 .left) (c .if4 .taken)
+
+returns-5 : tie.Need-returns-5
+returns-5 c = some-orderer _ _ _ _ (c .before .before .before .before .if1 .left) (c .if5 .taken)
 
 add-end : tie.Need-add-end
 add-end c = search needs
@@ -98,21 +117,21 @@ part-all-zero-end c = search needs
 all-zero-requires : tie.Need-all-zero-requires
 all-zero-requires c κs = search needs
 
-returns-5 : tie.Need-returns-5
-returns-5 c =
+returns-6 : tie.Need-returns-6
+returns-6 c =
     let o = c .before .before in
     let m = o .before .before in
     (rw add-sub-cancel-left at (c .all-zero .ensures))
-    ∙ no-members _ _ _ _ (omega arith) (m .before .before .if1 .left) (m .if3 .left) (o .if4 .left)
+    ∙ no-members _ _ _ _ (omega arith) (m .before .before .if1 .left) (m .if4 .left) (o .if5 .left)
 
 pub is-configuration-of-spec : {M : Type 1} → statement M
 is-configuration-of-spec =
     tie.close
     (tie.spec
     mul-at
-    add-t9
-    mul-t10
-    add-t11
+    add-t10
+    mul-t11
+    add-t12
     add-if1
     add-if1-2
     mul-if1
@@ -127,15 +146,17 @@ is-configuration-of-spec =
     is-configuration-requires
     returns
     size-requires
-    cast-all-parts
+    cast-size
     all-parts-requires
     returns-2
+    all-origins-requires
     returns-3
     returns-4
+    returns-5
     add-end
     mul-all-zero
     sub-all-zero
     part-all-zero-start
     part-all-zero-end
     all-zero-requires
-    returns-5)
+    returns-6)

@@ -1,11 +1,11 @@
--- `histories::prefix::is_seat_name` meets its contract.
+-- `histories::seat::is_seat_name` meets its contract.
 use mathlib.Core.Path.{sym, _∙_}
 use borrow.Author.Tests.{not-true, not-false}
 use Rattle.model.specs.Members.{isHost}
 use Rattle.histories.specs.Seats.{isSeatName}
 use borrow.Author.Needs.{needs}
-use Rattle.histories.proofs.prefix.is_seat_name.Statement.{statement}
-use Rattle.histories.proofs.prefix.is_seat_name.Tie as tie
+use Rattle.histories.proofs.seat.is_seat_name.Statement.{statement}
+use Rattle.histories.proofs.seat.is_seat_name.Tie as tie
 
 is-index-of-requires : tie.Need-is-index-of-requires
 is-index-of-requires c κs = search needs

@@ -1,4 +1,4 @@
--- `histories::prefix::find_seat` meets its contract.
+-- `histories::seat::find_seat` meets its contract.
 use Prim.Native.Nat.{ℕ}
 use native.Mathlib.Omega.{arith}
 use mathlib.Core.Path.{_≡_, sym, ap, _∙_}
@@ -7,8 +7,8 @@ use borrow.Author.Tests.{not-true, not-false}
 use Rattle.histories.specs.Seats.{isSeatName}
 use Rattle.histories.proofs.Seats.{named, nowhere-as, no-length, no-name, no-form, ready-host, found-as}
 use borrow.Author.Needs.{needs}
-use Rattle.histories.proofs.prefix.find_seat.Statement.{statement}
-use Rattle.histories.proofs.prefix.find_seat.Tie as tie
+use Rattle.histories.proofs.seat.find_seat.Statement.{statement}
+use Rattle.histories.proofs.seat.find_seat.Tie as tie
 
 -- the test of the name, by the number of shards that was found
 named-as : (z i h : ℕ) {shards Z : ℕ} {r : Bool} → shards ≡ Z → r ≡ isSeatName shards z i h → isSeatName Z z i h ≡ r
