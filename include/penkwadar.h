@@ -69,7 +69,9 @@ extern "C" {
 #define PENKWADAR_SEAT_MODE 0    /* one of the modes below */
 #define PENKWADAR_SEAT_LENGTH 1  /* entries in the list */
 #define PENKWADAR_SEAT_STABLE 2  /* of these, so many first ones are stable (confirmed) */
-#define PENKWADAR_SEAT_ENTRIES 8 /* the first entry; words 3 to 7 and those past the list are 0 */
+#define PENKWADAR_SEAT_ORIGIN 3  /* the box from which it inherited, of the index before, plus 1; 0 where it is pending,
+                                    unused or of index 1 */
+#define PENKWADAR_SEAT_ENTRIES 8 /* the first entry; words 4 to 7 and those past the list are 0 */
 
 #define PENKWADAR_UNUSED 0
 #define PENKWADAR_PENDING 1   /* appointed, and without a list yet */
@@ -87,7 +89,7 @@ extern "C" {
 #define PENKWADAR_INSTALL 5 /* zone; index and box in its sequencer, place from 0 in that box's list: the next index of
                                the zone is what is issued there, its members pending */
 #define PENKWADAR_INHERIT 6 /* zone, index, box, source: the pending box begins with the list of an immutable box of the
-                               index before */
+                               index before, and its seat notes which box that is */
 
 /* ---- Rejections ----
  *
@@ -181,6 +183,17 @@ uint64_t penkwadar_stable_prefix(const uint64_t *state, size_t state_len, uint64
  * Rejections: 8 (count_len below 1), then 1, 7 (zone not below Z), 9, and 8 (out is too short). */
 uint64_t penkwadar_stable_history(const uint64_t *state, size_t state_len, uint64_t zone, uint64_t *out, size_t out_len,
                                   uint64_t *count, size_t count_len);
+
+/* ---- Where a seat got its list ---- */
+#define PENKWADAR_TRACE_BOXES 7 /* a trace has at most so many boxes: one for each index after the first */
+
+/* The trace of a box's seat: the first word of count becomes how many boxes it has, and the first words of out become
+ * these boxes, nearest first: the one from which the seat inherited, in the index before, the one from which that box's
+ * seat there inherited, and so on back to index 1. A pending seat has none, any other exactly index - 1.
+ * Rejections: 8 (count_len below 1 or out_len below PENKWADAR_TRACE_BOXES), then 1, 7 (zone not below Z, index not 1 to
+ * 8, box above 15), 9, 10, 11. */
+uint64_t penkwadar_trace(const uint64_t *state, size_t state_len, uint64_t zone, uint64_t index, uint64_t box,
+                         uint64_t *out, size_t out_len, uint64_t *count, size_t count_len);
 
 /* ---- The text for spreadsheets ----
  *

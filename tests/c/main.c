@@ -200,8 +200,37 @@ static void check_reconfiguration(void)
     CHECK(step(INHERIT, 1, 2, 3, 2) == PENKWADAR_OTHER_MODE && state_unchanged());
     CHECK(step(WEDGE, 1, 1, 2, 0) == 0);
     CHECK(step(INHERIT, 1, 2, 3, 2) == 0);
-    CHECK(heir[0] == ACTIVE && heir[1] == 1 && heir[8] == 300);
+    CHECK(heir[0] == ACTIVE && heir[1] == 1 && heir[8] == 300 && heir[PENKWADAR_SEAT_ORIGIN] == 3);
     CHECK(step(INSTALL, 1, 1, 1, 1) == PENKWADAR_NOT_NEXT_INDEX && state_unchanged());
+}
+
+/* Box 3 of index 2 got its list from box 2, box 5 waits for one, and the boxes of index 1 had none before. */
+static void check_trace(void)
+{
+    uint64_t out[PENKWADAR_TRACE_BOXES + 1], count[2] = {UNWRITTEN, UNWRITTEN};
+    uint64_t *origin = state + PENKWADAR_SEAT(1, 2, 0) + PENKWADAR_SEAT_ORIGIN;
+    memset(out, 0xee, sizeof out);
+    CHECK(penkwadar_trace(state, WORDS, 1, 2, 3, out, 7, count, 0) == PENKWADAR_OUTPUT_SHORT);
+    CHECK(penkwadar_trace(state, WORDS - 1, 2, 0, 16, out, 6, count, 1) == PENKWADAR_OUTPUT_SHORT);
+    CHECK(penkwadar_trace(state, WORDS - 1, 2, 0, 16, out, 7, count, 1) == PENKWADAR_STATE_LENGTH);
+    CHECK(penkwadar_trace(state, WORDS, 2, 2, 3, out, 7, count, 1) == PENKWADAR_RANGE);
+    CHECK(penkwadar_trace(state, WORDS, 1, 9, 3, out, 7, count, 1) == PENKWADAR_RANGE);
+    CHECK(penkwadar_trace(state, WORDS, 1, 2, 16, out, 7, count, 1) == PENKWADAR_RANGE);
+    CHECK(penkwadar_trace(state, WORDS, 0, 2, 3, out, 7, count, 1) == PENKWADAR_NOT_INSTALLED);
+    CHECK(penkwadar_trace(state, WORDS, 1, 2, 2, out, 7, count, 1) == PENKWADAR_NO_MEMBER);
+    const uint64_t wrong[] = {0, 1, 5, 17};
+    for (size_t i = 0; i < 4; i++) {
+        *origin = wrong[i];
+        CHECK(penkwadar_trace(state, WORDS, 0, 2, 3, out, 7, count, 1) == PENKWADAR_NOT_WELL_FORMED);
+    }
+    *origin = 3;
+    CHECK(all_words(out, PENKWADAR_TRACE_BOXES + 1, UNWRITTEN) && all_words(count, 2, UNWRITTEN));
+    CHECK(penkwadar_trace(state, WORDS, 1, 2, 5, out, 7, count, 2) == 0 && count[0] == 0);
+    CHECK(penkwadar_trace(state, WORDS, 1, 1, 2, out, 7, count, 2) == 0 && count[0] == 0);
+    CHECK(all_words(out, PENKWADAR_TRACE_BOXES + 1, UNWRITTEN));
+    CHECK(penkwadar_trace(state, WORDS, 1, 2, 3, out, PENKWADAR_TRACE_BOXES + 1, count, 2) == 0);
+    CHECK(count[0] == 1 && count[1] == UNWRITTEN && out[0] == 2);
+    CHECK(all_words(out + 1, PENKWADAR_TRACE_BOXES, UNWRITTEN) && state_unchanged());
 }
 
 /* The stable histories as rows: of zone 0 the take and the issue, of zone 1 none. */
@@ -331,6 +360,7 @@ int main(void)
     check_stable_history();
     check_stable_prefix();
     check_reconfiguration();
+    check_trace();
     check_csv();
     check_wedge();
     check_read();

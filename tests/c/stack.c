@@ -41,6 +41,7 @@ static void read_step(void) { answers += penkwadar_read_step(steps_log, log_len,
 static void replay(void) { answers += penkwadar_replay(state, WORDS, steps_log, log_len, 99, words, 4); }
 static void prefix(void) { answers += penkwadar_stable_prefix(state, WORDS, 0, 1, 1, words, 56, count, 1); }
 static void history(void) { answers += penkwadar_stable_history(state, WORDS, 0, words, 56, count, 1); }
+static void trace(void) { answers += penkwadar_trace(state, WORDS, 1, 2, 3, words, 56, count, 1); }
 static void csv(void) { answers += penkwadar_csv(state, WORDS, text, sizeof text, count, 1); }
 static void transcript(void) { answers += penkwadar_transcript(steps_log, log_len, text, sizeof text, count, 1); }
 
@@ -67,6 +68,7 @@ int main(void) {
         log_len += count[0];
     }
     most = larger(most, larger(used(csv), larger(used(prefix), used(history))));
+    most = larger(most, used(trace));
     most = larger(most, larger(used(setup), used(read_step)));
     most = larger(most, used(replay));
     int accepted = words[0] == PENKWADAR_ENDED && words[1] == 6 && words[2] == 0;

@@ -81,6 +81,14 @@ static void show(const char *name, uint64_t index, uint64_t box)
     print_list(name, list, count);
 }
 
+/* From which boxes a box of the balcony got its list, nearest first. */
+static void trace(const char *name, uint64_t index, uint64_t box)
+{
+    uint64_t boxes[PENKWADAR_TRACE_BOXES], count;
+    accepted(penkwadar_trace(state, state_len, BALCONY, index, box, boxes, PENKWADAR_TRACE_BOXES, &count, 1), name);
+    print_list(name, boxes, count);
+}
+
 int main(void)
 {
     /* The state's length, and its setup: index 1 of each zone, all lists empty. */
@@ -111,6 +119,7 @@ int main(void)
     inherit(BALCONY, 2, 6, 2);
     inherit(BALCONY, 2, 2, 2);
     show("box 6, after inheriting", 2, 6);
+    trace("it began from box", 2, 6);
 
     /* The new orderer, box 6, takes take 13. */
     add(BALCONY, 2, 13);

@@ -1,6 +1,6 @@
 -- The proof of `specs/TraceLaws.antt`: a trace goes through replicas that are there to start from.
 -- Assumes nothing.
-use Prim.Native.Nat.{ℕ, suc, _-_, _≤_, _<_}
+use Prim.Native.Nat.{ℕ, suc, _-_, _≤_}
 use native.Mathlib.Omega.{arith}
 use mathlib.Core.Path.{_≡_, refl, sym, ap, subst, _∙_}
 use mathlib.Core.Bool.{Bool, true, false}
@@ -8,12 +8,11 @@ use mathlib.Core.List.{List, _∷_}
 use lib.ListN.{length, getD}
 use lib.Dec.{lit≤}
 use borrow.Author.Tests.{ltb-true}
-use Rattle.model.specs.Members.{hasMember}
-use Rattle.model.specs.Replicas.{isPending, isImmutable}
-use Rattle.model.specs.Layout.{installed, isInstalled, members}
+use Rattle.model.specs.Replicas.{isPending}
+use Rattle.model.specs.Layout.{installed, isInstalled}
 use Rattle.model.specs.Inherit.{source}
-use Rattle.model.specs.Setup.{setupRejection, afterSetup}
-use Rattle.model.specs.Runs.{Call, played, stateAt}
+use Rattle.model.specs.Setup.{afterSetup}
+use Rattle.model.specs.Runs.{played, stateAt}
 use Rattle.model.specs.OneList.{shards, Seated}
 use Rattle.model.specs.Sources.{replicaIn, SourcesClaim}
 use Rattle.model.proofs.Sources.{sources}

@@ -1,23 +1,17 @@
 -- The sources of a replica one after the other: each is a member's replica that is not pending, and names the next in its word 3.
 use Prim.Native.Nat.{ℕ, zero, suc, _+_, _-_, _≤_, _<_}
-use native.Mathlib.Nat.{add-zero, suc-inj}
 use native.Mathlib.Omega.{arith}
 use mathlib.Core.Path.{_≡_, refl, sym, ap, subst, _∙_}
-use mathlib.Core.Bool.{Bool, true, false, cond}
 use mathlib.Core.List.{List, [], _∷_, _++_, append-assoc}
-use lib.Dec.{eqb}
 use lib.ListN.{length, getD, take, set, replicate, length-append}
 use lib.Seq.{set-at, take-suc, take-all, length-take-le}
 use borrow.Author.Tests.{ltb-true, lt-ltb}
 use Rattle.model.specs.declared.configuration.Configuration.{Configuration}
-use Rattle.model.specs.Members.{hasMember}
-use Rattle.model.specs.Replicas.{isPending}
-use Rattle.model.specs.Layout.{installed, isInstalled, members, replicaAt}
+use Rattle.model.specs.Layout.{installed, isInstalled, replicaAt}
 use Rattle.model.specs.Configuration.{configuration, replicaPlace, replicaOf}
-use Rattle.model.specs.Origins.{namesSource}
 use Rattle.model.specs.Inherit.{source}
 use Rattle.model.specs.Sources.{replicaIn}
-use Rattle.model.proofs.Fields.{origin-word, pending-word}
+use Rattle.model.proofs.Fields.{origin-word}
 use Rattle.model.proofs.Origins.{Named, named, has-source}
 use Rattle.model.proofs.WellFormedMembers.{member-origin}
 use Rattle.lookup.proofs.Fields.{formed}

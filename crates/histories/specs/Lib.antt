@@ -1,4 +1,4 @@
--- What is read off a state: a shard's stable history and a replica's stable prefix, copied to an output, and the trace of a replica; and what two such readings have in common.
+-- What is read off a state: a shard's stable history, a replica's stable prefix and its trace; and what two such readings have in common.
 pub mod Listing
 pub mod Entries
 pub mod History

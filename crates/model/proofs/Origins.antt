@@ -1,18 +1,18 @@
 -- What the tests of an origin say, and what keeps them: the named source is a member of the configuration before and not pending.
-use Prim.Native.Nat.{ℕ, _+_, _-_, _≤_, _<_}
+use Prim.Native.Nat.{ℕ, _-_, _≤_, _<_}
 use native.Mathlib.Omega.{arith}
 use mathlib.Core.Path.{_≡_, refl, ap, _∙_}
-use mathlib.Core.Bool.{Bool, true, false, cond, not, _&&_, _||_, or-true}
+use mathlib.Core.Bool.{Bool, true, false, cond, not, _||_, or-true}
 use mathlib.Core.List.{List}
 use lib.Dec.{leb, eqb}
-use borrow.Author.Tests.{leb-true, le-leb, eqb-true, eq-eqb, eqb-false, ne-eqb, not-true}
+use borrow.Author.Tests.{leb-true, le-leb, eqb-true, eqb-false, ne-eqb, not-true}
 use Rattle.model.specs.Members.{hasMember, replicaNumber}
 use Rattle.model.specs.Replicas.{Replica, isPending, isActive, isImmutable, pending, added, adopted, learned, wedged, inherited}
 use Rattle.model.specs.Layout.{place, members, replicaAt}
-use Rattle.model.specs.Configuration.{configuration, replicaOf}
+use Rattle.model.specs.Configuration.{replicaOf}
 use Rattle.model.specs.Inherit.{source}
 use Rattle.model.specs.Origins.{namesMember, namesSource, isOriginOf}
-use Rattle.model.proofs.Tests.{both, and-left, and-right}
+use Rattle.model.proofs.Tests.{and-left, and-right}
 use Rattle.model.proofs.Places.{replica-place}
 
 -- where a source is
@@ -114,9 +114,10 @@ pub inherited-origin : (w : List ℕ) (z j g : ℕ) → 1 ≤ j → g < 16 → h
     → (isPending (inherited g (source w z j g)) ≡ false) × (isOriginOf w z j (inherited g (source w z j g)) ≡ true)
 unfolding inherited isPending
 inherited-origin w z j g h l m i =
-    let back : g + 1 - 1 ≡ g = omega arith in (
+    let r = inherited g (source w z j g) in
+    let back : r .origin - 1 ≡ g = omega arith in (
       refl,
-      has-source w z j (inherited g (source w z j g)) h refl
-          ∙ names-source w z j (g + 1)
+      has-source w z j r h refl
+          ∙ names-source w z j (r .origin)
           (record { least = omega arith; most = omega arith; member = rw back m; running = rw back (immutable-runs (source w z j g) i) }),
     )

@@ -3,23 +3,22 @@
 use Prim.Native.Nat.{ℕ, zero, suc, _-_, _≤_, _<_}
 use native.Mathlib.Nat.{le-refl, le-of-lt, lt-of-lt-of-le}
 use native.Mathlib.Omega.{arith}
-use mathlib.Core.Path.{_≡_, refl, sym, ap, subst, _∙_}
+use mathlib.Core.Path.{_≡_, refl, sym, ap, _∙_}
 use mathlib.Core.Bool.{Bool, true, false}
 use mathlib.Core.List.{List, []}
 use borrow.Author.Tests.{ltb-true, eq-eqb}
-use Rattle.model.specs.Members.{size, hasMember, replicaNumber}
+use Rattle.model.specs.Members.{hasMember, replicaNumber}
 use Rattle.model.specs.Replicas.{Replica, unused, isPending, isImmutable, inherited}
 use Rattle.model.specs.Layout.{installed, isInstalled, members}
-use Rattle.model.specs.Configuration.{configuration, replicaOf}
 use Rattle.model.specs.Inherit.{source}
-use Rattle.model.specs.Setup.{setupRejection, afterSetup}
-use Rattle.model.specs.Runs.{Call, Moment, played, stateAt}
+use Rattle.model.specs.Setup.{afterSetup}
+use Rattle.model.specs.Runs.{Moment, stateAt}
 use Rattle.model.specs.OneList.{shards, Seated}
-use Rattle.model.specs.Sources.{replicaIn, Began, Sources, SourcesClaim}
+use Rattle.model.specs.Sources.{replicaIn, Began, SourcesClaim}
 use Rattle.model.proofs.StateViews.{view, InView, inside, outside, in-view}
-use Rattle.model.proofs.SeatedReplica.{member-view, seated-view}
+use Rattle.model.proofs.SeatedReplica.{member-view}
 use Rattle.model.proofs.WellFormedMembers.{head-open, size-none}
-use Rattle.model.proofs.Forward.{Forward, forward-shards}
+use Rattle.model.proofs.Forward.{Forward}
 use Rattle.model.proofs.Safe.{Safe}
 use Rattle.model.proofs.Kept.{Source, From, stood, inherits, formed}
 use Rattle.model.proofs.KeptKinds.{in-use}

@@ -80,15 +80,23 @@ module _ {Z : ℕ} {w : List ℕ} (f : WellFormed Z w) {z j k : ℕ} (hz : z < Z
       rw (part-put-other w (place z j k) r (place-fits w (size-of f) hz hj few) (p .few) (place-apart z z′ hj few hj′ hk′ ne), u-members z′ hj′)
       (f .parts z′ j′ k′ hz′ hj′ hk′)
 
+  -- the replica that was written, and any other
+  u-here : replicaAt u (place z j k) ≡ r
+  unfolding u
+  u-here = replica-put w (place z j k) r (place-fits w (size-of f) hz hj few) (p .few)
+
+  u-there : (z′ j′ k′ : ℕ) → j′ < 8 → k′ < 4 → (z ≡ z′ → j ≡ j′ → k ≡ k′ → ⊥) → replicaAt u (place z′ j′ k′) ≡ replicaAt w (place z′ j′ k′)
+  unfolding u
+  u-there z′ j′ k′ hj′ hk′ ne =
+      replica-put-other w (place z j k) r (place-fits w (size-of f) hz hj few) (p .few) (place-apart z z′ hj few hj′ hk′ ne)
+
   -- what was not pending is not
   Live : ℕ → ℕ → ℕ → Type 0
   Live z′ j′ k′ = isPending (replicaAt u (place z′ j′ k′)) ≡ false
 
   still-live : (z′ j′ k′ : ℕ) → j′ < 8 → k′ < 4 → isPending (replicaAt w (place z′ j′ k′)) ≡ false → Live z′ j′ k′
-  unfolding Live u
-  still-live z′ j′ k′ hj′ hk′ e =
-      each-place Live z j k z′ j′ k′ (rw (replica-put w (place z j k) r (place-fits w (size-of f) hz hj few) (p .few)) live)
-      (λ ne. rw (replica-put-other w (place z j k) r (place-fits w (size-of f) hz hj few) (p .few) (place-apart z z′ hj few hj′ hk′ ne)) e)
+  unfolding Live
+  still-live z′ j′ k′ hj′ hk′ e = each-place Live z j k z′ j′ k′ (rw u-here live) (λ ne. rw (u-there z′ j′ k′ hj′ hk′ ne) e)
 
   -- so sources stay sources
   source-kept : (z′ j′ : ℕ) → z′ < Z → j′ < 8 → (g : ℕ) → 1 ≤ j′ → hasMember (members w z′ (j′ - 1)) g ≡ true
@@ -109,13 +117,10 @@ module _ {Z : ℕ} {w : List ℕ} (f : WellFormed Z w) {z j k : ℕ} (hz : z < Z
   Sourced z′ j′ k′ = isOriginOf u z′ j′ (replicaAt u (place z′ j′ k′)) ≡ true
 
   sourced : (z′ j′ k′ : ℕ) → z′ < Z → j′ < 8 → k′ < size (members w z′ j′) → Sourced z′ j′ k′
-  unfolding Sourced u
+  unfolding Sourced
   sourced z′ j′ k′ hz′ hj′ hk′ =
-      each-place Sourced z j k z′ j′ k′
-      (rw (replica-put w (place z j k) r (place-fits w (size-of f) hz hj few) (p .few))
-      (origin-stays w u z j r (source-kept z j hz hj) own))
-      (λ ne.
-      rw (replica-put-other w (place z j k) r (place-fits w (size-of f) hz hj few) (p .few) (place-apart z z′ hj few hj′ (omega (arith, size-few f hz′ hj′)) ne))
+      each-place Sourced z j k z′ j′ k′ (rw u-here (origin-stays w u z j r (source-kept z j hz hj) own))
+      (λ ne. rw (u-there z′ j′ k′ hj′ (omega (arith, size-few f hz′ hj′)) ne)
       (origin-stays w u z′ j′ _ (source-kept z′ j′ hz′ hj′) (f .origins z′ j′ k′ hz′ hj′ hk′)))
 
   pub put-keeps : WellFormed Z (putReplica w (place z j k) r)

@@ -1,24 +1,25 @@
 -- The tests of origins, as tests of the words where the code reads them.
 use Prim.Native.Nat.{ℕ, _+_, _-_, _*_, _≤_, _<_}
 use native.Mathlib.Omega.{arith}
+use native.Mathlib.Decide.{decLt}
 use mathlib.Core.Path.{_≡_, refl, sym, ap, subst, _∙_}
-use mathlib.Core.Bool.{Bool, true, false, not, _&&_, _||_, or-true, and-true}
+use mathlib.Core.Bool.{Bool, true, false, not, _&&_, _||_, or-true}
 use mathlib.Core.List.{List}
-use lib.Dec.{leb, eqb}
+use lib.Dec.{leb, ltb, eqb}
 use lib.Count.{ones}
 use lib.ListN.{length, getD}
-use borrow.Author.Tests.{leb-true, eq-eqb, ne-eqb, not-true}
+use borrow.Author.Tests.{leb-true, lt-ltb, le-ltb, eq-eqb, ne-eqb, not-true}
 use Rattle.model.specs.declared.configuration.Configuration.{Configuration}
 use Rattle.model.specs.Tests.{allBelow}
 use Rattle.model.specs.Members.{size, hasMember, replicaNumber}
 use Rattle.model.specs.Replicas.{isPending}
-use Rattle.model.specs.Layout.{place, isInstalled, members, orderer, part, replicaAt}
+use Rattle.model.specs.Layout.{place, isInstalled, members, orderer, replicaAt}
 use Rattle.model.specs.Configuration.{replicaPlace}
 use Rattle.model.specs.Inherit.{source}
 use Rattle.model.specs.Origins.{namesMember, namesSource, isOriginOf}
 use Rattle.model.specs.WellFormed.{isHeadOf, isConfigurationOf}
-use Rattle.model.proofs.Tests.{and-left, and-right, all-below}
-use Rattle.model.proofs.Ranges.{alike}
+use Rattle.model.proofs.Tests.{and-left, and-right, all-below, below-all}
+use Rattle.model.proofs.Ranges.{same-test, alike}
 use Rattle.model.proofs.Heads.{members-word}
 use Rattle.model.proofs.Fields.{origin-word, pending-word}
 use Rattle.model.proofs.Members.{number-below}
@@ -116,6 +117,17 @@ none-at w z j p k e q h =
     not-true _
     (subst (λ (i : ℕ). not (isPending (replicaAt w i)) ≡ true) (ap (λ (i : ℕ). i + k * 64) q ∙ stepped z j k)
     (all-below 4 (λ k. not (isPending (replicaAt w (p + k * 64)))) (sym e) k h))
+
+-- the first n of four
+pub first-of-four : (n : ℕ) (f : ℕ → Bool) → n ≤ 4 → allBelow 4 (λ k. not (ltb k n) || f k) ≡ allBelow n f
+first-of-four n f h =
+    same-test (allBelow 4 (λ k. not (ltb k n) || f k)) (allBelow n f)
+    (λ e. below-all n f (λ k l. rw (lt-ltb k n l) at (all-below 4 (λ k. not (ltb k n) || f k) e k (omega arith))))
+    (λ e. below-all 4 (λ k. not (ltb k n) || f k) (λ k l. go e k (decLt k n)))
+  where
+    go : allBelow n f ≡ true → (k : ℕ) → Dec (k < n) → (not (ltb k n) || f k) ≡ true
+    go e k (yes l) = rw (lt-ltb k n l) (all-below n f e k l)
+    go e k (no l) = rw (le-ltb k n (omega arith))
 
 -- then the members before decide
 module _ (w : List ℕ) (z j p : ℕ) (h : 1 ≤ j) (f : FewBefore w z j) (here : p ≡ place z j 0) (own : true ≡ nonePending w p)

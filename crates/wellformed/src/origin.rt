@@ -8,8 +8,9 @@ use model::layout::PENDING;
 use model::layout::REPLICA_WORDS;
 use model::layout::SHARD_WORDS;
 ghost use mathlib.Core.Path.{_≡_};
-ghost use mathlib.Core.Bool.{not};
+ghost use mathlib.Core.Bool.{not, _||_};
 ghost use Prim.Native.Nat.{_+_, _*_, _≤_, _<_};
+ghost use lib.Dec.{ltb};
 ghost use lib.ListN.{length};
 ghost use Rattle.model.specs.Tests.{allBelow};
 ghost use Rattle.model.specs.Replicas.{isPending};
@@ -102,14 +103,25 @@ fn none_pending(state: &[u64], place: usize) -> bool
     true
 }
 
-// Whether the origins of the first `count` replicas at a place name hosts of a member set.
+// Whether replica k at a place is past the first `count`, or its origin names a host of a member set.
+fn is_named(state: &[u64], place: usize, count: usize, before: u64, k: usize) -> bool
+    requires { ⌜ (place + configurationWords ≤ length (now state)) × (k < 4) ⌝ }
+    ensures { λ r. ⌜ r ≡ (not (ltb k count) || namesMember before (replicaAt (now (state .entry)) (place + k * partWords) .origin)) ⌝ }
+{
+    if count <= k {
+        return true;
+    }
+    names_member(before, state[place + k * REPLICA_WORDS + ORIGIN])
+}
+
+// Whether the origins of the first `count` replicas at a place name hosts of a member set: always four turns, which is faster.
 fn all_named(state: &[u64], place: usize, count: usize, before: u64) -> bool
     requires { ⌜ (place + configurationWords ≤ length (now state)) × (count ≤ 4) ⌝ }
     ensures { λ r. ⌜ r ≡ allBelow count (λ k. namesMember before (replicaAt (now (state .entry)) (place + k * partWords) .origin)) ⌝ }
 {
     let mut k = 0;
-    while k < count {
-        if !names_member(before, state[place + k * REPLICA_WORDS + ORIGIN]) {
+    while k < 4 {
+        if !is_named(state, place, count, before, k) {
             return false;
         }
         k += 1;
@@ -123,16 +135,14 @@ pub fn all_origins(state: &[u64], z: usize, j: usize, count: usize) -> bool
     requires { ⌜ FewBefore (now state) z j ⌝ }
     ensures { λ r. ⌜ r ≡ allBelow count (λ k. isOriginOf (now (state .entry)) z j (replicaAt (now (state .entry)) (place z j k))) ⌝ }
 {
-    if j == 0 {
-        return each_origin(state, z, j, count);
+    if 0 < j {
+        let at = z * SHARD_WORDS;
+        let first = at + HEAD_WORDS + j * CONFIGURATION_WORDS;
+        if none_pending(state, first - CONFIGURATION_WORDS) {
+            if none_pending(state, first) {
+                return all_named(state, first, count, state[at + MEMBERS + (j - 1)]);
+            }
+        }
     }
-    let at = z * SHARD_WORDS;
-    let first = at + HEAD_WORDS + j * CONFIGURATION_WORDS;
-    if !none_pending(state, first - CONFIGURATION_WORDS) {
-        return each_origin(state, z, j, count);
-    }
-    if !none_pending(state, first) {
-        return each_origin(state, z, j, count);
-    }
-    all_named(state, first, count, state[at + MEMBERS + (j - 1)])
+    each_origin(state, z, j, count)
 }

@@ -18,6 +18,7 @@ pub trait Interface {
     fn write_step(out: &mut [u8], at: usize, step: Step, count: &mut [u64]) -> u64;
     fn stable_history(state: &[u64], shard: u64, out: &mut [u64], count: &mut [u64]) -> u64;
     fn stable_prefix(state: &[u64], seat: Seat, out: &mut [u64], count: &mut [u64]) -> u64;
+    fn trace(state: &[u64], seat: Seat, out: &mut [u64], count: &mut [u64]) -> u64;
     fn csv(state: &[u64], out: &mut [u8], count: &mut [u64]) -> u64;
     fn transcript(log: &[u8], out: &mut [u8], count: &mut [u64]) -> u64;
 }
@@ -64,6 +65,11 @@ impl Interface for Proved {
     #[inline]
     fn stable_prefix(state: &[u64], seat: Seat, out: &mut [u64], count: &mut [u64]) -> u64 {
         ffi::stable_prefix(state, seat, out, count)
+    }
+
+    #[inline]
+    fn trace(state: &[u64], seat: Seat, out: &mut [u64], count: &mut [u64]) -> u64 {
+        ffi::trace(state, seat, out, count)
     }
 
     #[inline]
@@ -137,6 +143,11 @@ impl Interface for Plain {
     #[inline(never)]
     fn stable_prefix(state: &[u64], seat: Seat, out: &mut [u64], count: &mut [u64]) -> u64 {
         counted(count, || plain::stable_prefix(state, seat, out))
+    }
+
+    #[inline(never)]
+    fn trace(state: &[u64], seat: Seat, out: &mut [u64], count: &mut [u64]) -> u64 {
+        counted(count, || plain::trace(state, seat, out))
     }
 
     #[inline(never)]

@@ -106,6 +106,16 @@ impl<'a> Replica<'a> {
     pub fn stable(self) -> &'a [u64] {
         &self.words[8..][..self.words[2] as usize]
     }
+
+    /// The source host + 1, or 0.
+    pub fn origin(self) -> u64 {
+        self.words[3]
+    }
+
+    /// All 64 words.
+    pub fn words(self) -> &'a [u64] {
+        self.words
+    }
 }
 
 /// The word of an issue.

@@ -1,5 +1,6 @@
-//! States of a wrong length or form, with every kind of step and with replay.
+//! States of a wrong length or form, with every kind of step, replay and trace.
 
+use penkwadar_tests::seat::Seat;
 use penkwadar_tests::step::Step;
 use penkwadar_tests::testing::both;
 use penkwadar_tests::testing::plans::plan;
@@ -19,6 +20,9 @@ const STEPS: [Step; 6] = [
     Step::inherit(1, 2, 3, 4),
 ];
 
+/// In range whatever the state is.
+const SEAT: Seat = Seat { shard: 1, index: 2, host: 3 };
+
 /// Add 7, and wedge shard 1, index 2, host 3.
 const LOG: [u8; 8] = [1, 0, 1, 7, 4, 1, 2, 3];
 
@@ -30,7 +34,7 @@ struct Found {
 }
 
 impl Found {
-    /// Tries every kind of step and a replay on a state; all of them find it well-formed, or none.
+    /// Tries every kind of step, a replay and a trace on a state; all of them find it well-formed, or none.
     fn try_all(&mut self, state: &mut Twin<u64>, contents: &[u64]) -> bool {
         let replayed = both::replay(state, &LOG, u64::MAX);
         let rejected = replayed.answer == 9;
@@ -40,6 +44,8 @@ impl Found {
             assert_eq!(answer == 9, rejected, "{step:?} and replay see one form");
             restore(state, contents, answer == 0);
         }
+        let traced = both::trace(state, SEAT, &mut Twin::filled(7, 5), 1);
+        assert_eq!(traced == Err(9), rejected, "trace and replay see one form");
         match rejected {
             true => self.not += 1,
             false => self.well_formed += 1,
@@ -76,7 +82,7 @@ fn every_word(words: &[u64]) {
 
 /// Values near the limits of some field, and near the old one.
 fn values(old: u64) -> Vec<u64> {
-    let mut values = vec![0, 1, 2, 3, 4, 8, 9, 16, 56, 57, 1 << 32, 1 << 63, u64::MAX];
+    let mut values = vec![0, 1, 2, 3, 4, 8, 9, 16, 17, 56, 57, 1 << 32, 1 << 63, u64::MAX];
     values.extend([old.wrapping_add(1), old.wrapping_sub(1)]);
     values.extend([16, 20, 32].map(|bit| old ^ 1 << bit));
     // As many ones, but of host 16.
@@ -191,6 +197,8 @@ fn wrong_lengths() {
             assert_eq!(both::step(&mut state, step), 1, "{step:?} on {length} words");
         }
         assert_eq!(both::replay(&mut state, &LOG, 1).answer, 1, "replay on {length} words");
+        let traced = both::trace(&mut state, SEAT, &mut Twin::filled(7, 5), 1);
+        assert_eq!(traced, Err(1), "trace on {length} words");
     }
 }
 

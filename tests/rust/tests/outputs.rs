@@ -1,10 +1,10 @@
 //! Stable histories, transcripts and reports: what they hold, and outputs that are too short.
 
-use penkwadar_tests::seat::Seat;
 use penkwadar_tests::step::Step;
 use penkwadar_tests::testing::both;
 use penkwadar_tests::testing::logs::{push_step, spoil};
 use penkwadar_tests::testing::random::Random;
+use penkwadar_tests::testing::seats::{any_seat, rejection};
 use penkwadar_tests::testing::settings;
 use penkwadar_tests::testing::states::{spoil_state, well_formed};
 use penkwadar_tests::testing::steps::{any_step, odd_number};
@@ -50,22 +50,6 @@ fn stable_histories() {
     assert!([0, 1, 7, 8, 9].iter().all(|&answer| answers[answer] > 100), "{answers:?}");
 }
 
-/// A seat of the state mostly, else one that is not there or cannot be.
-fn any_seat(random: &mut Random, view: View, shards: u64) -> Seat {
-    let shard = random.below(shards);
-    let index = random.within(1..=view.installed(shard));
-    let hosts: Vec<u64> = view.hosts(shard, index).collect();
-    let seat = Seat { shard, index, host: random.pick(&hosts) };
-    match random.below(8) {
-        0 => Seat { shard: odd_number(random), ..seat },
-        1 => Seat { index: odd_number(random), ..seat },
-        2 => Seat { index: random.within(1..=8), ..seat },
-        3 => Seat { host: odd_number(random), ..seat },
-        4 => Seat { host: random.below(16), ..seat },
-        _ => seat,
-    }
-}
-
 #[test]
 fn stable_prefixes() {
     let mut random = Random::new(settings::seed() + 4);
@@ -73,15 +57,13 @@ fn stable_prefixes() {
     for run in 0..8_000 {
         let shards = 2 + run % 7;
         let mut words = well_formed(&mut random, shards);
-        let seat = any_seat(&mut random, View::new(&words), shards);
-        let Seat { shard, index, host } = seat;
-        let in_range = shard < shards && (1..=8).contains(&index) && host < 16;
-        let replica = match in_range {
-            true => View::new(&words).replica(shard, index, host),
-            false => None,
-        };
-        let expected = replica.map(|replica| replica.stable().to_vec());
-        let is_installed = in_range && index <= View::new(&words).installed(shard);
+        let view = View::new(&words);
+        let seat = any_seat(&mut random, view);
+        let rejected = rejection(view, seat);
+        let expected = (rejected == 0).then(|| {
+            let replica = view.replica(seat.shard, seat.index, seat.host).expect("a member");
+            replica.stable().to_vec()
+        });
         let room = expected.as_ref().map_or(9, Vec::len);
         let out_len = match random.below(5) {
             0 => random.place(60),
@@ -94,12 +76,10 @@ fn stable_prefixes() {
         let answer = match &expected {
             _ if count_len == 0 => 8,
             _ if !words.len().is_multiple_of(SHARD_WORDS) => 1,
-            _ if !in_range => 7,
+            _ if rejected == 7 => 7,
             _ if out_of_form => 9,
-            _ if !is_installed => 10,
-            None => 11,
             Some(stable) if stable.len() > out_len => 8,
-            Some(_) => 0,
+            _ => rejected,
         };
         let mut out = Twin::filled(out_len, random.word());
         let copied = both::stable_prefix(&mut Twin::new(&words), seat, &mut out, count_len);

@@ -1,7 +1,9 @@
 //! The vectors, on both implementations.
 
 use penkwadar_tests::interface::{Interface, Plain, Proved};
-use penkwadar_tests::testing::vectors::{csv_vectors, fnv, program_vectors, step_vectors};
+use penkwadar_tests::testing::vectors::{
+    csv_vectors, fnv, program_vectors, step_vectors, trace_vectors,
+};
 
 #[test]
 fn plain_steps() {
@@ -33,9 +35,19 @@ fn proved_csvs() {
     csvs::<Proved>();
 }
 
+#[test]
+fn plain_traces() {
+    traces::<Plain>();
+}
+
+#[test]
+fn proved_traces() {
+    traces::<Proved>();
+}
+
 fn steps<I: Interface>() {
     let vectors = step_vectors();
-    assert!(vectors.len() >= 1_900, "only {} vectors", vectors.len());
+    assert!(vectors.len() >= 2_140, "only {} vectors", vectors.len());
     for (number, mut vector) in (1..).zip(vectors) {
         let answer = I::step(&mut vector.words, vector.step);
         assert_eq!(answer, vector.answer, "answer of vector {number}");
@@ -56,20 +68,37 @@ fn programs<I: Interface>() {
     }
 }
 
-/// Every output is filled before the call; what is not expected to be written has to stay.
 fn csvs<I: Interface>() {
     let vectors = csv_vectors();
     assert!(vectors.len() >= 300, "only {} vectors", vectors.len());
     for (number, vector) in (1..).zip(vectors) {
         let mut text: Vec<u8> = (0..vector.out_len).map(|j| (170 + j) as u8).collect();
-        let mut count: Vec<u64> =
-            (0..vector.count_len as u64).map(|j| 12_297_829_382_473_034_410 + j).collect();
-        let (mut whole, mut counts) = (text.clone(), count.clone());
-        whole[..vector.text.len()].copy_from_slice(&vector.text);
-        counts[..vector.count.len()].copy_from_slice(&vector.count);
+        let mut count = unwritten(vector.count_len);
+        let expected = (begun(&text, &vector.text), begun(&count, &vector.count));
         let answer = I::csv(&vector.words, &mut text, &mut count);
         assert_eq!(answer, vector.answer, "answer of vector {number}");
-        assert!(text == whole, "text of vector {number}");
-        assert_eq!(count, counts, "count of vector {number}");
+        assert!((text, count) == expected, "text and count of vector {number}");
     }
+}
+
+fn traces<I: Interface>() {
+    let vectors = trace_vectors();
+    assert!(vectors.len() >= 240, "only {} vectors", vectors.len());
+    for (number, vector) in (1..).zip(vectors) {
+        let (mut hosts, mut count) = (unwritten(vector.out_len), unwritten(vector.count_len));
+        let expected = (begun(&hosts, &vector.hosts), begun(&count, &vector.count));
+        let answer = I::trace(&vector.words, vector.seat, &mut hosts, &mut count);
+        assert_eq!(answer, vector.answer, "answer of vector {number}");
+        assert_eq!((hosts, count), expected, "hosts and count of vector {number}");
+    }
+}
+
+/// Every output is filled before the call; what is not expected to be written has to stay.
+fn unwritten(words: usize) -> Vec<u64> {
+    (0..words as u64).map(|j| 12_297_829_382_473_034_410 + j).collect()
+}
+
+/// An output with these elements at its start.
+fn begun<T: Copy>(output: &[T], start: &[T]) -> Vec<T> {
+    [start, &output[start.len()..]].concat()
 }

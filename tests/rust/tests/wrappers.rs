@@ -19,13 +19,18 @@ fn state() -> State {
     State::setup(&PLAN).expect("the program's plan")
 }
 
+/// Tries steps that are all accepted.
+fn run(state: &mut State, steps: &[Step]) {
+    for &step in steps {
+        assert_eq!(state.step(step), Ok(()), "{step:?}");
+    }
+}
+
 /// Tries steps; all but the last are accepted.
 fn last_of(steps: &[Step]) -> Result<(), Rejection> {
     let mut state = state();
     let (last, first) = steps.split_last().expect("a step");
-    for &step in first {
-        assert_eq!(state.step(step), Ok(()), "{step:?}");
-    }
+    run(&mut state, first);
     state.step(*last)
 }
 
@@ -90,9 +95,7 @@ fn reconfiguration() {
         Step::add(1, 1, 300),
         Step::install(1, 1, 1, 0),
     ];
-    for step in accepted {
-        assert_eq!(state.step(step), Ok(()), "{step:?}");
-    }
+    run(&mut state, &accepted);
     let inherit = Step::inherit(1, 2, 3, 2);
     assert_eq!(state.step(inherit), Err(Rejection::OtherMode), "an active source");
     assert_eq!(state.step(Step::adopt(1, 2, 5)), Err(Rejection::ActingMode), "a pending heir");
@@ -133,9 +136,7 @@ fn owned_and_borrowed_words() {
 #[test]
 fn stable_histories_into_a_buffer() {
     let mut state = state();
-    for step in [Step::add(0, 1, 7), Step::adopt(0, 1, 1), Step::learn(0, 1, 1, 1)] {
-        assert_eq!(state.step(step), Ok(()));
-    }
+    run(&mut state, &[Step::add(0, 1, 7), Step::adopt(0, 1, 1), Step::learn(0, 1, 1, 1)]);
     let mut out = [9; 3];
     assert_eq!(state.stable_history_into(0, &mut []), Err(Rejection::OutputShort));
     assert_eq!(state.stable_history_into(0, &mut out), Ok(1));
@@ -148,11 +149,6 @@ fn stable_histories_into_a_buffer() {
 fn boxes_show_one_list() {
     let mut state = state();
     let seat = |index, host| Seat { shard: 1, index, host };
-    let run = |state: &mut State, steps: &[Step]| {
-        for &step in steps {
-            assert_eq!(state.step(step), Ok(()), "{step:?}");
-        }
-    };
     run(&mut state, &[Step::add(1, 1, 12), Step::adopt(1, 1, 3), Step::learn(1, 1, 3, 1)]);
     let balcony = state.stable_prefix(seat(1, 3));
     assert_eq!(balcony, Ok(vec![12]));
@@ -168,6 +164,36 @@ fn boxes_show_one_list() {
     assert_eq!(state.stable_prefix(seat(2, 2)), Err(Rejection::NoMember));
     assert_eq!(state.stable_prefix(seat(9, 2)), Err(Rejection::Range));
     assert_eq!(state.stable_prefix_into(seat(2, 5), &mut [0]), Err(Rejection::OutputShort));
+}
+
+/// Support staff see from which box each seat began, over two changes of boxes.
+#[test]
+fn boxes_and_where_they_began() {
+    let mut state = state();
+    let seat = |index, host| Seat { shard: 1, index, host };
+    let last = issue(3, 1, 7, 1 << 7);
+    run(&mut state, &[Step::add(0, 1, SUCCESSOR), Step::add(0, 1, last), Step::adopt(0, 1, 1)]);
+    run(&mut state, &[Step::learn(0, 1, 1, 2), Step::install(1, 1, 1, 0)]);
+    run(&mut state, &[Step::wedge(1, 1, 2), Step::wedge(1, 1, 3)]);
+    assert_eq!(state.trace(seat(1, 2)), Ok(vec![]), "index 1");
+    assert_eq!(state.trace(seat(2, 5)), Ok(vec![]), "a pending seat");
+    run(&mut state, &[Step::inherit(1, 2, 3, 3), Step::inherit(1, 2, 5, 2), Step::adopt(1, 2, 5)]);
+    assert_eq!(state.trace(seat(2, 3)), Ok(vec![3]));
+    assert_eq!(state.trace(seat(2, 5)), Ok(vec![2]), "adopt leaves it");
+    run(&mut state, &[Step::wedge(1, 2, 5), Step::install(1, 1, 1, 1), Step::inherit(1, 3, 7, 5)]);
+    assert_eq!(state.trace(seat(3, 7)), Ok(vec![5, 2]), "nearest first");
+    let mut out = [9; 8];
+    assert_eq!(state.trace_into(seat(3, 7), &mut out), Ok(2));
+    assert_eq!(out, [5, 2, 9, 9, 9, 9, 9, 9]);
+    assert_eq!(state.trace_into(seat(3, 7), &mut out[..6]), Err(Rejection::OutputShort));
+    assert_eq!(state.trace(seat(4, 7)), Err(Rejection::NotInstalled));
+    assert_eq!(state.trace(seat(3, 5)), Err(Rejection::NoMember));
+    assert_eq!(state.trace(seat(0, 7)), Err(Rejection::Range));
+    state.words_mut()[0] = 0;
+    assert_eq!(state.trace(seat(3, 7)), Err(Rejection::NotWellFormed));
+    let mut short = state.into_words();
+    short.pop();
+    assert_eq!(State::from_words(short).trace(seat(3, 7)), Err(Rejection::StateLength));
 }
 
 /// The sample of document 01: 26 bytes, six steps, the last rejected.

@@ -8,6 +8,7 @@ mod replays;
 mod single;
 mod states;
 mod table;
+mod trace;
 mod transcripts;
 
 use table::Table;
@@ -15,13 +16,14 @@ use table::Table;
 /// A part of the benchmark: its name, and what measures it.
 type Part = (&'static str, fn() -> Vec<Table>);
 
-const PARTS: [Part; 6] = [
+const PARTS: [Part; 7] = [
     ("check", check::tables),
     ("steps", single::tables),
     ("codec", codec::tables),
     ("replays", replays::tables),
     ("transcripts", transcripts::tables),
     ("csv", csv::tables),
+    ("trace", trace::tables),
 ];
 
 /// Measures the named parts, or all where none is named, and prints Markdown.

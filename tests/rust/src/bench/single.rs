@@ -104,7 +104,7 @@ fn installs(random: &mut Random, shards: u64) -> Steps {
     Steps::new(words, steps)
 }
 
-/// Three pending replicas of each configuration inherit a full history from a wedged one.
+/// Three pending replicas of each configuration inherit a full history from a wedged one, whose source is that before.
 fn inherits(random: &mut Random, shards: u64) -> Steps {
     let mut words = full(random, shards, 0);
     let mut steps = Vec::new();
@@ -113,6 +113,7 @@ fn inherits(random: &mut Random, shards: u64) -> Steps {
     for (j, replicas) in (0..).zip(block.chunks_exact_mut(256)) {
         replicas[0] = IMMUTABLE;
         if j > 0 {
+            replicas[3] = 1;
             for host in 1..4 {
                 replicas[host as usize * 64..][..64].fill(0);
                 replicas[host as usize * 64] = PENDING;

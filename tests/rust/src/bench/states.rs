@@ -24,13 +24,18 @@ pub fn after_setup(plan: Vec<u64>) -> Vec<u64> {
     words
 }
 
-/// All configurations installed, all replicas active, empty histories.
+/// All configurations installed, all replicas active, empty histories. The sources of an index are all hosts of the one
+/// before, in an order that changes with the index.
 pub fn installed(shards: u64) -> Vec<u64> {
     let mut words = after_setup(plan(shards));
     for block in words.chunks_exact_mut(SHARD_WORDS) {
         block[1] = 8;
         block[2..10].fill(MEMBERS);
-        block[64..].chunks_exact_mut(64).for_each(|replica| replica[0] = ACTIVE);
+        for (number, replica) in (0..).zip(block[64..].chunks_exact_mut(64)) {
+            let (j, host) = (number / 4, number % 4);
+            replica[0] = ACTIVE;
+            replica[3] = if j == 0 { 0 } else { 1 + (host + j) % 4 };
+        }
     }
     words
 }

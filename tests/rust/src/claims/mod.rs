@@ -6,14 +6,19 @@
 //!   shard's stable history at every moment;
 //! - no stable prefix shrinks, and no replica vanishes;
 //! - every configuration after the first is the first issue for its shard and index in its sequencer's stable history;
-//! - no history holds two issues for one shard and index, and no step is rejected with 22.
+//! - no history holds two issues for one shard and index, and no step is rejected with 22;
+//! - every replica after index 1 that is not pending became so by an accepted inherit, with the history and stable
+//!   length of the source, which its origin names ever since; the source is immutable and stays as it was.
 
+mod beginnings;
 mod reference;
 mod violation;
 
 use crate::rejection::Rejection;
+use crate::seat::Seat;
 use crate::step::Step;
 use crate::view::{Replica, View, is_issue_for, issue, issued_for};
+use beginnings::Beginnings;
 use reference::Reference;
 pub use violation::Violation;
 
@@ -22,6 +27,7 @@ pub struct Claims {
     /// The words at the last moment.
     words: Vec<u64>,
     references: Vec<Reference>,
+    beginnings: Beginnings,
 }
 
 impl Claims {
@@ -29,14 +35,15 @@ impl Claims {
     pub fn after_setup(words: &[u64]) -> Result<Claims, Violation> {
         let view = View::new(words);
         for shard in 0..view.shards() {
-            let fresh = view.all_replicas(shard).all(|replica| replica.history().is_empty());
-            if view.installed(shard) != 1 || !fresh {
+            let fresh = |replica: Replica| replica.history().is_empty() && replica.origin() == 0;
+            if view.installed(shard) != 1 || !view.all_replicas(shard).all(fresh) {
                 return Err(Violation::SetupNotEmpty);
             }
         }
         Ok(Claims {
             words: words.to_vec(),
             references: (0..view.shards()).map(|_| Reference::default()).collect(),
+            beginnings: Beginnings::default(),
         })
     }
 
@@ -64,7 +71,8 @@ impl Claims {
             self.check_issued(now, shard)?;
             self.check_issued(now, now.sequenced(shard))?;
         }
-        Ok(())
+        // Last, so that the other claims are told first.
+        changed.iter().try_for_each(|&shard| self.beginnings.follow(now, shard, step))
     }
 
     /// The shards with other words than at the last moment.
@@ -76,6 +84,11 @@ impl Claims {
     /// The history of a shard's reference shard.
     pub fn reference(&self, shard: u64) -> &[u64] {
         self.references[shard as usize].history()
+    }
+
+    /// The hosts from which a replica's history came, nearest first, by the inherits of the run.
+    pub fn trace(&self, seat: Seat) -> Vec<u64> {
+        self.beginnings.trace(seat)
     }
 
     /// The reference shard accepts what became stable; then every stable prefix begins its history.

@@ -20,11 +20,12 @@ impl State<'_> {
         if replicas[orderer][MODE] == PENDING {
             return Err(Rejection::OtherMode);
         }
-        let own = replicas[at][STABLE];
+        let (stable, origin) = (replicas[at][STABLE], replicas[at][ORIGIN]);
         replicas.copy_within(orderer..=orderer, at);
         let replica = &mut replicas[at];
         replica[MODE] = ACTIVE;
-        replica[STABLE] = own.max(replica[STABLE]).min(replica[LENGTH]);
+        replica[STABLE] = stable.max(replica[STABLE]).min(replica[LENGTH]);
+        replica[ORIGIN] = origin;
         Ok(())
     }
 }

@@ -1,6 +1,6 @@
 //! Member sets with their orderers.
 
-use super::layout::{INSTALLED, MEMBERS, ORDERERS, REPLICAS, Shard};
+use super::layout::{INSTALLED, MEMBERS, ORDERERS, REPLICAS, Replica, Shard, replicas};
 
 /// The hosts of one configuration, and which of them orders.
 #[derive(Clone, Copy)]
@@ -38,6 +38,12 @@ impl Configuration {
     pub fn of_head(shard: &Shard, j: usize) -> Configuration {
         Configuration { members: shard[MEMBERS + j], orderer: shard[ORDERERS + j] }
     }
+}
+
+/// The replica of a host (0 to 15) in configuration `j`, counted from 0, which is proper, if the host is a member.
+pub fn replica_in(shard: &Shard, j: usize, host: u64) -> Option<&Replica> {
+    let at = Configuration::of_head(shard, j).replica(host)?;
+    Some(&replicas(shard)[j * REPLICAS + at])
 }
 
 /// The configuration of an index (1 to 8) and the number of its first replica, if it is installed.

@@ -27,6 +27,7 @@ impl State<'_> {
         }
         replicas.copy_within(from..=from, at);
         replicas[at][MODE] = ACTIVE;
+        replicas[at][ORIGIN] = source + 1;
         Ok(())
     }
 }

@@ -20,10 +20,13 @@ pub const MEMBERS: usize = 2;
 pub const ORDERERS: usize = MEMBERS + CONFIGURATIONS;
 pub const HEAD_USED: usize = ORDERERS + CONFIGURATIONS;
 
-/// Replica words: mode, length, stable length, and the first entry.
+/// Replica words: mode, length, stable length, origin (the source host + 1, or 0), the first that is kept 0, and the
+/// first entry.
 pub const MODE: usize = 0;
 pub const LENGTH: usize = 1;
 pub const STABLE: usize = 2;
+pub const ORIGIN: usize = 3;
+pub const RESERVED: usize = 4;
 pub const ENTRIES: usize = 8;
 
 pub const PENDING: u64 = 1;

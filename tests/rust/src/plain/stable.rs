@@ -1,7 +1,7 @@
 //! Stable histories of shards, and stable prefixes of replicas.
 
-use super::configuration::installed;
 use super::layout::{self, STABLE, Shard, replicas, shard_count};
+use super::seats;
 use super::wellformed::are_well_formed;
 use crate::rejection::Rejection;
 use crate::seat::Seat;
@@ -21,19 +21,8 @@ pub fn stable_history(words: &[u64], shard: u64, out: &mut [u64]) -> Result<usiz
 
 /// Copies the stable prefix of a replica to `out`; gives how many entries it has.
 pub fn stable_prefix(words: &[u64], seat: Seat, out: &mut [u64]) -> Result<usize, Rejection> {
-    let Seat { shard, index, host } = seat;
-    let count = shard_count(words.len()).ok_or(Rejection::StateLength)?;
-    if shard >= count as u64 || !(1..=8).contains(&index) || host > 15 {
-        return Err(Rejection::Range);
-    }
-    let shards = words.as_chunks().0;
-    if !are_well_formed(shards) {
-        return Err(Rejection::NotWellFormed);
-    }
-    let shard: &Shard = &shards[shard as usize];
-    let (configuration, first) = installed(shard, index).ok_or(Rejection::NotInstalled)?;
-    let at = first + configuration.replica(host).ok_or(Rejection::NoMember)?;
-    copy(layout::stable_prefix(&replicas(shard)[at]), out)
+    let (_, replica) = seats::find(words, seat)?;
+    copy(layout::stable_prefix(replica), out)
 }
 
 /// The longest stable prefix; of equally long ones the lowest index's, then the lowest replica's.

@@ -1,6 +1,6 @@
 //! The whole check of a state.
 
-use super::configuration::Configuration;
+use super::configuration::{Configuration, replica_in};
 use super::entry::is_proper;
 use super::layout::*;
 
@@ -31,9 +31,10 @@ fn is_shard(shard: &Shard, shards: usize) -> bool {
     let (used, unused) = replicas(shard).split_at(installed * REPLICAS);
     is_head_rest(shard, installed)
         && are_zero(unused.as_flattened())
-        && used.chunks_exact(REPLICAS).enumerate().all(|(j, replicas)| {
-            is_configuration(Configuration::of_head(shard, j), replicas, j == 0, shards)
-        })
+        && used
+            .chunks_exact(REPLICAS)
+            .enumerate()
+            .all(|(j, replicas)| is_configuration(shard, j, replicas, shards))
 }
 
 /// Whether the head words past the installed configurations are 0.
@@ -42,17 +43,17 @@ fn is_head_rest(shard: &Shard, installed: usize) -> bool {
         && are_zero(&shard[HEAD_USED..HEAD_WORDS])
 }
 
-fn is_configuration(
-    configuration: Configuration,
-    replicas: &[Replica],
-    first: bool,
-    shards: usize,
-) -> bool {
+/// Whether configuration `j`, counted from 0, with its replicas is well-formed. Those before it are.
+fn is_configuration(shard: &Shard, j: usize, replicas: &[Replica], shards: usize) -> bool {
+    let configuration = Configuration::of_head(shard, j);
     if !configuration.is_proper() {
         return false;
     }
     let (used, unused) = replicas.split_at(configuration.size());
-    are_zero(unused.as_flattened()) && used.iter().all(|replica| is_replica(replica, first, shards))
+    are_zero(unused.as_flattened())
+        && used
+            .iter()
+            .all(|replica| is_replica(replica, j == 0, shards) && is_origin(shard, j, replica))
 }
 
 fn is_replica(replica: &Replica, first: bool, shards: usize) -> bool {
@@ -64,9 +65,20 @@ fn is_replica(replica: &Replica, first: bool, shards: usize) -> bool {
         return false;
     }
     let (entries, rest) = replica[ENTRIES..].split_at(length as usize);
-    are_zero(&replica[STABLE + 1..ENTRIES])
+    are_zero(&replica[RESERVED..ENTRIES])
         && are_zero(rest)
         && entries.iter().all(|&entry| is_proper(entry, shards))
+}
+
+/// Whether a replica of configuration `j` has no origin where it is pending or of the first, and else one that names a
+/// member of the configuration before whose replica is not pending.
+fn is_origin(shard: &Shard, j: usize, replica: &Replica) -> bool {
+    let origin = replica[ORIGIN];
+    if j == 0 || replica[MODE] == PENDING {
+        return origin == 0;
+    }
+    (1..=16).contains(&origin)
+        && replica_in(shard, j - 1, origin - 1).is_some_and(|source| source[MODE] != PENDING)
 }
 
 fn are_zero(words: &[u64]) -> bool {

@@ -73,6 +73,17 @@ mod c {
             count: *mut u64,
             count_len: usize,
         ) -> u64;
+        pub fn penkwadar_trace(
+            state: *const u64,
+            state_len: usize,
+            zone: u64,
+            index: u64,
+            host: u64,
+            out: *mut u64,
+            out_len: usize,
+            count: *mut u64,
+            count_len: usize,
+        ) -> u64;
         pub fn penkwadar_csv(
             state: *const u64,
             state_len: usize,
@@ -188,6 +199,31 @@ pub fn stable_prefix(
     // header promises that `state` is only read.
     unsafe {
         c::penkwadar_stable_prefix(
+            state.as_ptr(),
+            state.len(),
+            shard,
+            index,
+            host,
+            out.as_mut_ptr(),
+            out.len(),
+            count.as_mut_ptr(),
+            count.len(),
+        )
+    }
+}
+
+/// Writes the hosts from which a replica's history came, nearest first; the first word of `count` becomes their number.
+#[inline]
+pub fn trace(
+    state: &[u64],
+    Seat { shard, index, host }: Seat,
+    out: &mut [u64],
+    count: &mut [u64],
+) -> u64 {
+    // SAFETY: pointers and lengths are those of slices; outputs are borrowed mutably, so none overlap, and the
+    // header promises that `state` is only read.
+    unsafe {
+        c::penkwadar_trace(
             state.as_ptr(),
             state.len(),
             shard,

@@ -14,5 +14,5 @@ pub use crate::report::{Report, Stop};
 pub use crate::seat::Seat;
 pub use crate::step::Step;
 pub use codec::{read_step, write_step};
-pub use state::{CSV_BYTES, State, state_words};
+pub use state::{CSV_BYTES, State, TRACE_HOSTS, state_words};
 pub use transcript::{LONGEST_LOG, transcript};

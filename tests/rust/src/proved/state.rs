@@ -77,6 +77,22 @@ impl<W: AsRef<[u64]>> State<W> {
         Ok(count[0] as usize)
     }
 
+    /// From which hosts a replica's history came, one for each configuration before, nearest first; none where the
+    /// replica is pending.
+    pub fn trace(&self, seat: Seat) -> Result<Vec<u64>, Rejection> {
+        let mut out = vec![0; TRACE_HOSTS];
+        let length = self.trace_into(seat, &mut out)?;
+        out.truncate(length);
+        Ok(out)
+    }
+
+    /// Writes these hosts to the start of `out`, which has room for seven, and gives how many they are.
+    pub fn trace_into(&self, seat: Seat, out: &mut [u64]) -> Result<usize, Rejection> {
+        let mut count = [0];
+        result(ffi::trace(self.words(), seat, out, &mut count))?;
+        Ok(count[0] as usize)
+    }
+
     /// Every shard's stable history as text for spreadsheets (RFC 4180).
     pub fn csv(&self) -> Result<Vec<u8>, Rejection> {
         let mut out = vec![0; CSV_BYTES];
@@ -121,6 +137,9 @@ impl<W: AsRef<[u64]> + AsMut<[u64]>> State<W> {
 
 /// No text for spreadsheets is longer.
 pub const CSV_BYTES: usize = 10_247;
+
+/// No trace has more hosts, and its output is no shorter.
+pub const TRACE_HOSTS: usize = 7;
 
 /// Entries that a history holds at most.
 const HISTORY: usize = 56;

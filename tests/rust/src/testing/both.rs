@@ -1,6 +1,6 @@
 //! Calls of both implementations. Each compares the answers and every element of every buffer, and gives the answer.
 
-use super::twin::Twin;
+use super::twin::{Element, Twin};
 use crate::interface::{Interface, Plain, Proved};
 use crate::seat::Seat;
 use crate::step::Step;
@@ -83,7 +83,7 @@ pub fn read_step_into(log: &[u8], at: usize, step_len: usize) -> Result<[u64; 6]
 }
 
 /// A call that writes to `out` and counts in the first of `count_len` words.
-fn counted<T: super::twin::Element>(
+fn counted<T: Element>(
     out: &mut Twin<T>,
     count_len: usize,
     call: &dyn std::fmt::Debug,
@@ -119,7 +119,28 @@ pub fn write_step(
     )
 }
 
-/// The count of entries copied, or the rejection. The state is compared as well: it is only read.
+/// A call that only reads a state, writes to `out` and counts. The state is compared as well.
+fn reading<T: Element>(
+    state: &mut Twin<u64>,
+    out: &mut Twin<T>,
+    count_len: usize,
+    call: &dyn std::fmt::Debug,
+    plain: impl Fn(&[u64], &mut [T], &mut [u64]) -> u64,
+    proved: impl Fn(&[u64], &mut [T], &mut [u64]) -> u64,
+) -> Result<usize, u64> {
+    let (plain_state, proved_state) = state.both();
+    let answer = counted(
+        out,
+        count_len,
+        call,
+        |out, count| plain(plain_state, out, count),
+        |out, count| proved(proved_state, out, count),
+    );
+    state.settle(true, call);
+    answer
+}
+
+/// The count of entries copied, or the rejection.
 pub fn stable_history(
     state: &mut Twin<u64>,
     shard: u64,
@@ -127,19 +148,17 @@ pub fn stable_history(
     count_len: usize,
 ) -> Result<usize, u64> {
     let call = ("stable_history", shard, out.get().len(), count_len);
-    let (plain, proved) = state.both();
-    let answer = counted(
+    reading(
+        state,
         out,
         count_len,
         &call,
-        |out, count| Plain::stable_history(plain, shard, out, count),
-        |out, count| Proved::stable_history(proved, shard, out, count),
-    );
-    state.settle(true, &call);
-    answer
+        |state, out, count| Plain::stable_history(state, shard, out, count),
+        |state, out, count| Proved::stable_history(state, shard, out, count),
+    )
 }
 
-/// The count of entries copied, or the rejection. The state is compared as well: it is only read.
+/// The count of entries copied, or the rejection.
 pub fn stable_prefix(
     state: &mut Twin<u64>,
     seat: Seat,
@@ -147,31 +166,38 @@ pub fn stable_prefix(
     count_len: usize,
 ) -> Result<usize, u64> {
     let call = ("stable_prefix", seat, out.get().len(), count_len);
-    let (plain, proved) = state.both();
-    let answer = counted(
+    reading(
+        state,
         out,
         count_len,
         &call,
-        |out, count| Plain::stable_prefix(plain, seat, out, count),
-        |out, count| Proved::stable_prefix(proved, seat, out, count),
-    );
-    state.settle(true, &call);
-    answer
+        |state, out, count| Plain::stable_prefix(state, seat, out, count),
+        |state, out, count| Proved::stable_prefix(state, seat, out, count),
+    )
 }
 
-/// The length of the text for spreadsheets, or the rejection. The state is compared as well: it is only read.
-pub fn csv(state: &mut Twin<u64>, out: &mut Twin<u8>, count_len: usize) -> Result<usize, u64> {
-    let call = ("csv", out.get().len(), count_len);
-    let (plain, proved) = state.both();
-    let answer = counted(
+/// The count of hosts written, or the rejection.
+pub fn trace(
+    state: &mut Twin<u64>,
+    seat: Seat,
+    out: &mut Twin<u64>,
+    count_len: usize,
+) -> Result<usize, u64> {
+    let call = ("trace", seat, out.get().len(), count_len);
+    reading(
+        state,
         out,
         count_len,
         &call,
-        |out, count| Plain::csv(plain, out, count),
-        |out, count| Proved::csv(proved, out, count),
-    );
-    state.settle(true, &call);
-    answer
+        |state, out, count| Plain::trace(state, seat, out, count),
+        |state, out, count| Proved::trace(state, seat, out, count),
+    )
+}
+
+/// The length of the text for spreadsheets, or the rejection.
+pub fn csv(state: &mut Twin<u64>, out: &mut Twin<u8>, count_len: usize) -> Result<usize, u64> {
+    let call = ("csv", out.get().len(), count_len);
+    reading(state, out, count_len, &call, Plain::csv, Proved::csv)
 }
 
 /// The length of the text, or the rejection.

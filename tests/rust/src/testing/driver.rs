@@ -6,6 +6,7 @@ use super::coverage::Coverage;
 use super::logs;
 use super::plans::plan;
 use super::random::Random;
+use super::seats::assert_trace;
 use super::singly::singly;
 use super::steps::any_step;
 use super::temper::Temper;
@@ -13,6 +14,7 @@ use super::tried::{Tried, caps};
 use super::twin::Twin;
 use crate::claims::Claims;
 use crate::plain;
+use crate::proved::TRACE_HOSTS;
 use crate::seat::Seat;
 use crate::view::{HISTORY, Replica, SHARD_WORDS, View};
 
@@ -121,11 +123,17 @@ impl<'a> Driver<'a> {
         log
     }
 
-    /// Looks at a shard's stable history and at what one of its hosts shows.
+    /// Looks at a shard's stable history, at what one of its hosts shows, and where that got its history.
     fn look(&mut self) {
-        let shard = self.random.below(View::new(self.state.get()).shards());
+        let view = View::new(self.state.get());
+        let shard = self.random.below(view.shards());
+        let replicas: Vec<Replica> = view.all_replicas(shard).collect();
+        let replica = self.random.pick(&replicas);
+        let seat = Seat { shard, index: replica.index, host: replica.host };
+        let stable = replica.stable().to_vec();
         self.look_at_shard(shard);
-        self.look_at_replica(shard);
+        self.look_at_replica(seat, &stable);
+        self.look_at_trace(seat);
     }
 
     /// In a run a shard's stable history is that of the reference shard.
@@ -139,23 +147,29 @@ impl<'a> Driver<'a> {
 
     /// In a run what a host shows begins what the reference shard holds, and is one list with all that hosts of its
     /// shard showed before.
-    fn look_at_replica(&mut self, shard: u64) {
-        let view = View::new(self.state.get());
-        let replicas: Vec<Replica> = view.all_replicas(shard).collect();
-        let replica = self.random.pick(&replicas);
-        let seat = Seat { shard, index: replica.index, host: replica.host };
-        let stable = replica.stable().to_vec();
+    fn look_at_replica(&mut self, seat: Seat, stable: &[u64]) {
         let mut out = Twin::filled(HISTORY, u64::MAX);
         let length = both::stable_prefix(&mut self.state, seat, &mut out, 1).expect("a replica");
         let shown = &out.get()[..length];
         assert_eq!(shown, stable, "{seat:?}");
         if let Some(claims) = &self.claims {
-            assert!(claims.reference(shard).starts_with(shown), "{seat:?}");
-            let before = &mut self.shown[shard as usize];
+            assert!(claims.reference(seat.shard).starts_with(shown), "{seat:?}");
+            let before = &mut self.shown[seat.shard as usize];
             assert!(before.starts_with(shown) || shown.starts_with(before), "{seat:?}");
             if before.len() < length {
                 *before = shown.to_vec();
             }
+        }
+    }
+
+    /// In a run a replica's trace is what the inherits of the run say.
+    fn look_at_trace(&mut self, seat: Seat) {
+        let mut out = Twin::filled(TRACE_HOSTS, u64::MAX);
+        let length = both::trace(&mut self.state, seat, &mut out, 1).expect("a replica");
+        let hosts = &out.get()[..length];
+        assert_trace(View::new(self.state.get()), seat, hosts);
+        if let Some(claims) = &self.claims {
+            assert_eq!(hosts, claims.trace(seat), "{seat:?}");
         }
     }
 }

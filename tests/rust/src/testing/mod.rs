@@ -8,6 +8,7 @@ mod likely;
 pub mod logs;
 pub mod plans;
 pub mod random;
+pub mod seats;
 pub mod settings;
 mod singly;
 pub mod states;

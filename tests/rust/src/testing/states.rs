@@ -1,6 +1,6 @@
 //! Random well-formed states that no run from setup needs to reach.
 
-use super::plans::{configuration, sequencers};
+use super::plans::{configuration, hosts, sequencers};
 use super::random::Random;
 use crate::view::{ACTIVE, HISTORY, IMMUTABLE, PENDING, SHARD_WORDS, issue};
 
@@ -18,20 +18,39 @@ pub fn well_formed(random: &mut Random, shards: u64) -> Vec<u64> {
 fn write_shard(random: &mut Random, block: &mut [u64], shards: u64) {
     let installed = random.within(1..=8) as usize;
     block[1] = installed as u64;
+    let mut origins = vec![0];
     for j in 0..installed {
         let (members, orderer) = configuration(random);
         block[2 + j] = members;
         block[10 + j] = orderer;
-        let histories = histories(random, shards);
-        let replicas = block[64 + 256 * j..].chunks_exact_mut(64);
-        for replica in replicas.take(members.count_ones() as usize) {
-            let mode = random.within(if j == 0 { ACTIVE } else { PENDING }..=IMMUTABLE);
-            replica[0] = mode;
-            if mode != PENDING {
+        let replicas = &mut block[64 + 256 * j..][..256];
+        origins = write_replicas(random, replicas, members, &origins, shards);
+    }
+}
+
+/// Writes the replicas of a configuration with some of the origins: 0 in the first, where none is pending. Without any,
+/// all are pending. Gives the origins for the next configuration: the hosts, plus 1, whose replicas are not pending.
+fn write_replicas(
+    random: &mut Random,
+    replicas: &mut [u64],
+    members: u64,
+    origins: &[u64],
+    shards: u64,
+) -> Vec<u64> {
+    let histories = histories(random, shards);
+    let mut next = Vec::new();
+    for (host, replica) in hosts(members).into_iter().zip(replicas.chunks_exact_mut(64)) {
+        match random.pick_any(origins) {
+            Some(origin) if origin == 0 || !random.chance(20) => {
+                replica[0] = random.within(ACTIVE..=IMMUTABLE);
+                replica[3] = origin;
                 write_history(random, replica, &histories);
+                next.push(host + 1);
             }
+            _ => replica[0] = PENDING,
         }
     }
+    next
 }
 
 /// Two histories of one configuration, often long and often alike at first.

@@ -4,6 +4,7 @@
 use std::fs;
 use std::path::{Path, PathBuf};
 
+use crate::seat::Seat;
 use crate::step::Step;
 
 /// One single step, the state it is tried on, and what is expected.
@@ -33,6 +34,18 @@ pub struct CsvVector {
     pub count: Vec<u64>,
 }
 
+/// One call for where a replica got its history, and what is expected.
+pub struct TraceVector {
+    pub words: Vec<u64>,
+    pub seat: Seat,
+    pub out_len: usize,
+    pub count_len: usize,
+    pub answer: u64,
+    /// What is written at the start of the output, and of the count.
+    pub hosts: Vec<u64>,
+    pub count: Vec<u64>,
+}
+
 /// The single steps that `crates/step_vectors` runs in the gate too.
 pub fn step_vectors() -> Vec<StepVector> {
     let mut numbers = Numbers { bytes: read(&root().join("crates/step_vectors/stdin")), at: 0 };
@@ -53,11 +66,26 @@ pub fn program_vectors() -> Vec<ProgramVector> {
     inputs.into_iter().map(program_vector).collect()
 }
 
-/// The calls of `tests/vectors/csv/csv.txt`, one a line; `tests/vectors/README.md` has the format.
+/// The calls of `tests/vectors/csv/csv.txt`.
 pub fn csv_vectors() -> Vec<CsvVector> {
-    let bytes = read(&root().join("tests/vectors/csv/csv.txt"));
-    let text = String::from_utf8(bytes).expect("text");
-    text.lines().map(|line| csv_vector(&mut Tokens(line.split(' ')))).collect()
+    calls("csv/csv.txt", csv_vector)
+}
+
+/// The calls of `tests/vectors/trace/trace.txt`.
+pub fn trace_vectors() -> Vec<TraceVector> {
+    calls("trace/trace.txt", trace_vector)
+}
+
+/// The calls of a file in `tests/vectors`, one a line; the `README.md` there has the format.
+fn calls<V>(file: &str, call: fn(&mut Tokens) -> V) -> Vec<V> {
+    let text = String::from_utf8(read(&root().join("tests/vectors").join(file))).expect("text");
+    let vector = |line: &str| {
+        let mut tokens = Tokens(line.split(' '));
+        let vector = call(&mut tokens);
+        assert!(tokens.0.next().is_none(), "more words in the line");
+        vector
+    };
+    text.lines().map(vector).collect()
 }
 
 /// FNV-1a of 64 bits over words, each as eight bytes, lowest first.
@@ -168,6 +196,16 @@ fn csv_vector(tokens: &mut Tokens) -> CsvVector {
     let (out_len, count_len) = (tokens.number() as usize, tokens.number() as usize);
     tokens.expect("=");
     let (answer, text, count) = (tokens.number(), tokens.bytes(), tokens.words());
-    assert!(tokens.0.next().is_none(), "more words in the line");
     CsvVector { words, out_len, count_len, answer, text, count }
+}
+
+fn trace_vector(tokens: &mut Tokens) -> TraceVector {
+    tokens.expect("trace");
+    let words = tokens.state();
+    let [shard, index, host] = [(); 3].map(|_| tokens.number());
+    let (out_len, count_len) = (tokens.number() as usize, tokens.number() as usize);
+    tokens.expect("=");
+    let (answer, hosts, count) = (tokens.number(), tokens.words(), tokens.words());
+    let seat = Seat { shard, index, host };
+    TraceVector { words, seat, out_len, count_len, answer, hosts, count }
 }

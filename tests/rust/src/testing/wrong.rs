@@ -1,4 +1,6 @@
 //! Machines with one error each, of those that document 01 warns of and a few more.
+//!
+//! Replica words: 0 mode, 1 length, 2 stable length, 3 origin, 8 to 63 entries.
 
 use crate::claims::Violation;
 use crate::plain;
@@ -23,10 +25,14 @@ pub enum Wrong {
     InstallUnstable,
     /// Inherit from a replica that is still active.
     InheritActive,
+    /// Adopt copies the orderer's origin.
+    AdoptOrigin,
+    /// Inherit copies the source's origin.
+    InheritOrigin,
 }
 
 impl Wrong {
-    pub const ALL: [Wrong; 7] = [
+    pub const ALL: [Wrong; 9] = [
         Wrong::AdoptLowers,
         Wrong::AdoptPending,
         Wrong::LearnMajority,
@@ -34,6 +40,8 @@ impl Wrong {
         Wrong::AddRival,
         Wrong::InstallUnstable,
         Wrong::InheritActive,
+        Wrong::AdoptOrigin,
+        Wrong::InheritOrigin,
     ];
 
     /// The claims that the error can break first.
@@ -42,7 +50,9 @@ impl Wrong {
             Wrong::AdoptLowers | Wrong::AdoptPending => &[Violation::Shrinks],
             Wrong::AddRival => &[Violation::SecondIssue],
             Wrong::InstallUnstable => &[Violation::NotFirstIssue],
-            Wrong::LearnMajority | Wrong::LearnSkipsPending | Wrong::InheritActive => {
+            Wrong::InheritActive => &[Violation::SourceChanged],
+            Wrong::AdoptOrigin | Wrong::InheritOrigin => &[Violation::OtherOrigin],
+            Wrong::LearnMajority | Wrong::LearnSkipsPending => {
                 &[Violation::Disagrees, Violation::Shrinks, Violation::Twice]
             }
         }
@@ -54,7 +64,7 @@ impl Wrong {
         let answer = number_of(&plain::step(words, step));
         let view = View::new(&before);
         match (self, step.kind, answer) {
-            (Wrong::AdoptLowers, 2, 0) => lower(words, view, step),
+            (Wrong::AdoptLowers, 2, 0) => adopt_word(words, view, step, 2),
             (Wrong::AdoptPending, 2, 13) => adopt_pending(words, view, step),
             (Wrong::LearnMajority, 3, 19) => {
                 learn(words, view, step, |alike, _, size| 2 * alike > size)
@@ -65,6 +75,8 @@ impl Wrong {
             (Wrong::AddRival, 1, 23) => add_rival(words, view, step),
             (Wrong::InstallUnstable, 5, 20) => install_unstable(words, view, step),
             (Wrong::InheritActive, 6, 13) => inherit_active(words, view, step),
+            (Wrong::AdoptOrigin, 2, 0) => adopt_word(words, view, step, 3),
+            (Wrong::InheritOrigin, 6, 0) => inherit_origin(words, view, step),
             _ => answer,
         }
     }
@@ -76,16 +88,19 @@ fn place(view: View, shard: u64, index: u64, host: u64) -> usize {
     shard as usize * SHARD_WORDS + 64 + (index as usize - 1) * 256 + replica * 64
 }
 
-fn lower(words: &mut [u64], view: View, step: Step) -> u64 {
+/// Copies one more word of the orderer's replica.
+fn adopt_word(words: &mut [u64], view: View, step: Step, word: usize) -> u64 {
     let [shard, index, host, _] = step.numbers;
     let orderer = place(view, shard, index, view.orderer(shard, index));
-    words[place(view, shard, index, host) + 2] = words[orderer + 2];
+    words[place(view, shard, index, host) + word] = words[orderer + word];
     0
 }
 
 fn adopt_pending(words: &mut [u64], view: View, step: Step) -> u64 {
     let [shard, index, host, _] = step.numbers;
-    words[place(view, shard, index, host) + 1..][..63].fill(0);
+    let replica = &mut words[place(view, shard, index, host)..][..64];
+    replica[1..3].fill(0);
+    replica[8..].fill(0);
     0
 }
 
@@ -157,9 +172,18 @@ fn inherit_active(words: &mut [u64], view: View, step: Step) -> u64 {
     match view.replica(shard, index - 1, source) {
         Some(replica) if replica.mode() == ACTIVE => {
             let from = place(view, shard, index - 1, source);
-            words.copy_within(from..from + 64, place(view, shard, index, host));
+            let to = place(view, shard, index, host);
+            words.copy_within(from..from + 64, to);
+            words[to + 3] = source + 1;
             0
         }
         _ => 13,
     }
+}
+
+fn inherit_origin(words: &mut [u64], view: View, step: Step) -> u64 {
+    let [shard, index, host, source] = step.numbers;
+    let from = place(view, shard, index - 1, source);
+    words[place(view, shard, index, host) + 3] = words[from + 3];
+    0
 }

@@ -1,18 +1,11 @@
 -- `wellformed::origin::all_origins` meets its contract: where no replica is pending, the members before decide.
 use native.Mathlib.Omega.{arith}
-use mathlib.Core.Path.{refl, sym, _∙_}
-use borrow.Author.Tests.{not-false}
+use mathlib.Core.Path.{sym, _∙_}
 use Rattle.model.specs.Layout.{place}
 use Rattle.wellformed.proofs.Origins.{all-decided}
 use borrow.Author.Needs.{needs}
 use Rattle.wellformed.proofs.origin.all_origins.Statement.{statement}
 use Rattle.wellformed.proofs.origin.all_origins.Tie as tie
-
-each-origin-requires : tie.Need-each-origin-requires
-each-origin-requires c κs = search needs
-
-returns : tie.Need-returns
-returns c = search needs
 
 mul-at : tie.Need-mul-at
 mul-at c = search needs
@@ -32,20 +25,8 @@ sub-none-pending c = search needs
 none-pending-requires : tie.Need-none-pending-requires
 none-pending-requires c κs = search needs
 
-each-origin-requires-2 : tie.Need-each-origin-requires-2
-each-origin-requires-2 c κs = search needs
-
-returns-2 : tie.Need-returns-2
-returns-2 c = search needs
-
 none-pending-requires-2 : tie.Need-none-pending-requires-2
 none-pending-requires-2 c κs = search needs
-
-each-origin-requires-3 : tie.Need-each-origin-requires-3
-each-origin-requires-3 c κs = search needs
-
-returns-3 : tie.Need-returns-3
-returns-3 c = search needs
 
 add-all-named : tie.Need-add-all-named
 add-all-named c = search needs
@@ -65,39 +46,41 @@ shared-slice-read-all-named c = search needs
 all-named-requires : tie.Need-all-named-requires
 all-named-requires c κs = search needs
 
-returns-4 : tie.Need-returns-4
+returns : tie.Need-returns
 unfolding place
-returns-4 c =
+returns c =
     let o = c .before .before in
     let b = o .before .before in
     let q = b .before .before .before .before .pre in
     c .all-named .ensures
-    ∙ all-decided _ _ _ _ (omega arith) (q .1) (omega arith) (sym (not-false _ (o .if3 .left)) ∙ o .before .none-pending2 .ensures)
-    (sym (not-false _ (b .if2 .left)) ∙ b .before .none-pending .ensures)
+    ∙ all-decided _ _ _ _ (omega arith) (q .1) (omega arith) (sym (o .if3 .taken) ∙ o .before .none-pending2 .ensures)
+    (sym (b .if2 .taken) ∙ b .before .none-pending .ensures)
     _
     (q .0 .2)
+
+each-origin-requires : tie.Need-each-origin-requires
+each-origin-requires c κs = search needs
+
+returns-2 : tie.Need-returns-2
+returns-2 c = search needs
 
 pub all-origins-spec : {M : Type 1} → statement M
 all-origins-spec =
     tie.close
     (tie.spec
-    each-origin-requires
-    returns
     mul-at
     add-first
     mul-first
     add-first-2
     sub-none-pending
     none-pending-requires
-    each-origin-requires-2
-    returns-2
     none-pending-requires-2
-    each-origin-requires-3
-    returns-3
     add-all-named
     sub-all-named
     add-all-named-2
     mul-all-named
     shared-slice-read-all-named
     all-named-requires
-    returns-4)
+    returns
+    each-origin-requires
+    returns-2)

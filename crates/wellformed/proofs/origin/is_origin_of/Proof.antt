@@ -1,5 +1,4 @@
 -- `wellformed::origin::is_origin_of` meets its contract, by the laws of an origin's words.
-use native.Mathlib.Omega.{arith}
 use mathlib.Core.Path.{_∙_}
 use Rattle.model.specs.Layout.{place}
 use Rattle.wellformed.proofs.Origins.{first-origin, waiting-origin, other-origin}
