@@ -2,17 +2,17 @@
 -- Assumes nothing.
 use Prim.Native.Nat.{ℕ, _+_, _*_, _<_}
 use native.Mathlib.Omega.{arith}
-use mathlib.Core.Path.{_≡_, refl, ap, _∙_}
-use mathlib.Core.List.{List, [], _∷_}
+use mathlib.Core.Path.{_≡_, ap, _∙_}
+use mathlib.Core.List.{List}
 use lib.ListN.{length, getD, set, length-set}
 use Rattle.model.specs.Members.{size}
-use Rattle.model.specs.Replicas.{Replica, readReplica, replicaWords, unused}
+use Rattle.model.specs.Replicas.{readReplica, replicaWords, unused}
 use Rattle.model.specs.Layout.{shardsOf, place, part, headPlace, installed, putHead}
 use Rattle.model.specs.Install.{installNext}
 use Rattle.model.proofs.Parts.{replica-set-other}
 use Rattle.model.proofs.Places.{head-outside}
 use Rattle.model.proofs.Heads.{installed-word}
-use Rattle.model.proofs.WellFormedParts.{Vacant, part-is-words, part-vacant}
+use Rattle.model.proofs.WellFormedParts.{vacant-unused, part-is-words, part-vacant}
 use Rattle.model.proofs.WellFormedMembers.{configured}
 use Rattle.model.proofs.WellFormedInstall.{old-vacant}
 use Rattle.install_steps.specs.Next.{ReadyNext, Unused, pendingFrom}
@@ -25,21 +25,6 @@ headed w z n m o = set (set (set w (z * 2112 + 2 + n) m) (z * 2112 + 10 + n) o) 
 
 pub headed-long : (w : List ℕ) (z n m o : ℕ) → length (headed w z n m o) ≡ length w
 headed-long w z n m o = simp length-set
-
--- a replica of no member is unused
-vacant-unused : (r : Replica) → Vacant r → r ≡ unused
-unfolding unused
-vacant-unused r v =
-    λ i. record {
-      mode = v .mode-none i;
-      history = empty (r .history) (v .history-none) i;
-      stable = v .stable-none i;
-      origin = v .origin-none i;
-    }
-  where
-    empty : (l : List ℕ) → length l ≡ 0 → l ≡ []
-    empty [] e = refl
-    empty (x ∷ l) e = absurd (omega arith)
 
 -- a head word is in no part
 head-apart : (w : List ℕ) (z i x : ℕ) {n k : ℕ} → i < 64 → n < 8 → k < 4 → part (set w (z * 2112 + i) x) (place z n k) ≡ part w (place z n k)

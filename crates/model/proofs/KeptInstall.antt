@@ -4,9 +4,9 @@ use Prim.Native.Nat.{ℕ, suc, _+_, _*_, _≤_, _<_}
 use native.Mathlib.Nat.{le-of-eq, lt-of-lt-of-le}
 use native.Mathlib.Omega.{arith}
 use native.Mathlib.Decide.{ℕ-discrete, decLt}
-use mathlib.Core.Path.{_≡_, refl, sym, ap, subst, _∙_}
+use mathlib.Core.Path.{_≡_, sym, ap, subst, _∙_}
 use mathlib.Core.Bool.{true}
-use mathlib.Core.List.{List, [], _∷_}
+use mathlib.Core.List.{List}
 use lib.Dec.{lit≤, lit<}
 use lib.ListN.{length, getD}
 use Rattle.model.specs.Members.{size, replicaNumber, isConfiguration}
@@ -30,27 +30,13 @@ use Rattle.model.proofs.Issues.{first-stays, first-at, none-before, iss
 use Rattle.model.proofs.Rivals.{names-own}
 use Rattle.model.proofs.Forward.{Forward}
 use Rattle.model.proofs.WellFormed.{size-of}
-use Rattle.model.proofs.WellFormedParts.{Vacant, part-vacant}
+use Rattle.model.proofs.WellFormedParts.{vacant-unused, part-vacant}
 use Rattle.model.proofs.WellFormedMembers.{configured}
 use Rattle.model.proofs.InstallNext.{next-length, next-other, next-installed, next-members, next-orderer, next-pending, next-parts}
 use Rattle.model.proofs.WellFormedInstall.{old-vacant, issuer-proper, issue-proper, stable-issue, next-index}
 use Rattle.model.proofs.SeatedReplica.{member-view}
 use Rattle.model.proofs.Safe.{Safe, Issued}
 use Rattle.model.proofs.Kept.{From, stood, Kept, formed, sequencer-below, inv-same, issued-stays}
-
-empty-of : (l : List ℕ) → length l ≡ 0 → l ≡ []
-empty-of [] e = refl
-empty-of (x ∷ l) e = absurd (omega (arith, e))
-
-vacant-unused : (r : Replica) → Vacant r → r ≡ unused
-unfolding unused
-vacant-unused r v =
-    λ i. record {
-      mode = v .mode-none i;
-      history = empty-of (r .history) (v .history-none) i;
-      stable = v .stable-none i;
-      origin = v .origin-none i;
-    }
 
 -- one fact, or two others
 data Either (A B C : Type 0) : Type 0 where

@@ -123,6 +123,21 @@ vacant r e =
       origin-none = eqb-true (r .origin) 0 (p .1 .1 .1 .0);
     }
 
+-- .. is unused
+pub vacant-unused : (r : Replica) → Vacant r → r ≡ unused
+unfolding unused
+vacant-unused r v =
+    λ i. record {
+      mode = v .mode-none i;
+      history = empty (r .history) (v .history-none) i;
+      stable = v .stable-none i;
+      origin = v .origin-none i;
+    }
+  where
+    empty : (l : List ℕ) → length l ≡ 0 → l ≡ []
+    empty [] e = refl
+    empty (x ∷ l) e = absurd (omega arith)
+
 -- ---- a replica's 64 words
 
 pub part-is-words : (Z j : ℕ) (b : Bool) (p : List ℕ) → isPart Z j b p ≡ true → p ≡ replicaWords (readReplica p)
