@@ -5,12 +5,12 @@ use mathlib.Core.List.{List}
 use lib.Dec.{leb}
 use lib.ListN.{length}
 use Rattle.histories.specs.Listing.{afterListingOf}
-use Rattle.histories.specs.Traces.{traceOf, traceRejection}
+use Rattle.histories.specs.Traces.{mostHosts, traceOf, traceRejection}
 use Rattle.capi.specs.Counts.{countedAnswer, countedOut, countAfter}
 
--- "at most seven" boxes: with less room the answer is 8, before anything else
+-- with less room than the most boxes take the answer is 8, before anything else
 unfoldable pub boxesRejection : List ℕ → ℕ → ℕ → ℕ → List ℕ → ℕ
-boxesRejection w z i h out = cond (leb 7 (length out)) (traceRejection w z i h) 8
+boxesRejection w z i h out = cond (leb mostHosts (length out)) (traceRejection w z i h) 8
 
 -- the answer, and what is left of the two outputs
 unfoldable pub traceAnswer : List ℕ → ℕ → ℕ → ℕ → List ℕ → List ℕ → ℕ

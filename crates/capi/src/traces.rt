@@ -1,5 +1,6 @@
 // Where a seat got its list: the boxes from which it and its sources inherited.
 use histories::copy::copy;
+use histories::trace::MOST_HOSTS;
 ghost use mathlib.Core.Path.{_≡_};
 ghost use Rattle.capi.specs.Traces.{traceAnswer, boxesAfter, boxCountAfter};
 
@@ -20,7 +21,7 @@ pub extern "C" fn penkwadar_trace(
     if count.len() < 1 {
         return 8;
     }
-    if out.len() < 7 {
+    if out.len() < MOST_HOSTS {
         return 8;
     }
     let trace = histories::trace::trace(state, zone, index, host);

@@ -8,8 +8,7 @@ use lib.ListN.{length, getD}
 use borrow.Author.Tests.{eq-eqb, ne-eqb}
 use Rattle.model.specs.Replicas.{isPending}
 use Rattle.model.specs.Layout.{replicaAt}
-use Rattle.model.specs.Configuration.{configuration, replicaPlace, replicaOf}
-use Rattle.model.specs.Sources.{replicaIn}
+use Rattle.model.specs.Configuration.{configuration, replicaPlace, replicaOf, replicaIn}
 use Rattle.model.proofs.Fields.{pending-word}
 use Rattle.lookup.specs.declared.Seat.{Seat}
 use Rattle.lookup.proofs.Seats.{member-placed}
@@ -17,7 +16,7 @@ use Rattle.histories.specs.declared.trace.HostTrace.{HostTrace}
 use Rattle.histories.specs.Seats.{seatNamed}
 use Rattle.histories.specs.Traces.{sourcesOf, traceOf, traceRejection, padded, listed, traced, Started}
 use Rattle.histories.proofs.Seats.{Found, found}
-use Rattle.histories.proofs.Traces.{sources-length}
+use Rattle.histories.proofs.Traces.{started, sources-length}
 
 module _ (w : List ℕ) (z i h : ℕ) {r : Seat} (e : r ≡ seatNamed w z i h) where
   answer-is : traceRejection w z i h ≡ r .answer
@@ -59,8 +58,7 @@ module _ (w : List ℕ) (z i h : ℕ) {r : Seat} (e : r ≡ seatNamed w z i h) w
       runs = mode-is ∙ ne-eqb (getD w (r .place) 0) 1 m
 
       pub starts : Started w z (i - 1) h
-      starts =
-          record { ready = record { ready = at .ready; host = at .inRange .host }; there = at .there; member = at .member; running = runs }
+      starts = started at runs
 
       pub lists : {l : List ℕ} → l ≡ padded (sourcesOf w z (i - 1) h)
           → _≡_ {A = HostTrace} (record { answer = 0; count = i - 1; hosts = l }) (traced w z i h)

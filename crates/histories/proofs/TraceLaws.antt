@@ -14,13 +14,14 @@ use Rattle.model.specs.Inherit.{source}
 use Rattle.model.specs.Setup.{afterSetup}
 use Rattle.model.specs.Runs.{played, stateAt}
 use Rattle.model.specs.OneList.{shards, Seated}
-use Rattle.model.specs.Sources.{replicaIn, SourcesClaim}
+use Rattle.model.specs.Configuration.{replicaIn}
+use Rattle.model.specs.Sources.{SourcesClaim}
 use Rattle.model.proofs.Sources.{sources}
 use Rattle.histories.specs.Seats.{seatNamed}
 use Rattle.histories.specs.Traces.{sourceHost, sourcesOf, traceOf, traceRejection, Started}
-use Rattle.histories.specs.TraceLaws.{hostOf, TraceLaws}
+use Rattle.histories.specs.TraceLaws.{hostOf, ImmutableHosts, TraceLaws}
 use Rattle.histories.proofs.Seats.{Found, found}
-use Rattle.histories.proofs.Traces.{names, along, next-host, sources-length}
+use Rattle.histories.proofs.Traces.{started, names, along, next-host, sources-length}
 
 -- a call that is accepted has found its replica
 there : (w : List ℕ) (z i h : ℕ) → traceRejection w z i h ≡ 0 → Found w z i h
@@ -35,9 +36,7 @@ module _ (w : List ℕ) (z i h : ℕ) (e : traceRejection w z i h ≡ 0) where
     whole = rw r
 
     start : Started w z (i - 1) h
-    start =
-        let f = there w z i h e in
-        record { ready = record { ready = f .ready; host = f .inRange .host }; there = f .there; member = f .member; running = r }
+    start = started (there w z i h e) r
 
     is-long : (length (traceOf w z (i - 1) h) ≡ i - 1) × (i - 1 ≤ 7)
     is-long = (ap length whole ∙ sources-length w z (i - 1) h, omega (arith, there w z i h e .inRange .most))
@@ -96,7 +95,7 @@ module _ (w : List ℕ) (z i h : ℕ) (e : traceRejection w z i h ≡ 0) where
         rw back
 
 pub trace-laws : TraceLaws
-unfolding SourcesClaim
+unfolding SourcesClaim ImmutableHosts
 trace-laws =
     record {
       long = is-long;

@@ -2,21 +2,27 @@
 use Prim.Native.Nat.{ℕ, zero, suc, _+_, _-_, _≤_, _<_}
 use native.Mathlib.Omega.{arith}
 use mathlib.Core.Path.{_≡_, refl, sym, ap, subst, _∙_}
+use mathlib.Core.Bool.{false}
 use mathlib.Core.List.{List, [], _∷_, _++_, append-assoc}
 use lib.ListN.{length, getD, take, set, replicate, length-append}
 use lib.Seq.{set-at, take-suc, take-all, length-take-le}
 use borrow.Author.Tests.{ltb-true, lt-ltb}
 use Rattle.model.specs.declared.configuration.Configuration.{Configuration}
+use Rattle.model.specs.Replicas.{isPending}
 use Rattle.model.specs.Layout.{installed, isInstalled, replicaAt}
-use Rattle.model.specs.Configuration.{configuration, replicaPlace, replicaOf}
+use Rattle.model.specs.Configuration.{configuration, replicaPlace, replicaOf, replicaIn}
 use Rattle.model.specs.Inherit.{source}
-use Rattle.model.specs.Sources.{replicaIn}
 use Rattle.model.proofs.Fields.{origin-word}
 use Rattle.model.proofs.Origins.{Named, named, has-source}
 use Rattle.model.proofs.WellFormedMembers.{member-origin}
 use Rattle.lookup.proofs.Fields.{formed}
 use Rattle.lookup.proofs.Seats.{member-placed}
 use Rattle.histories.specs.Traces.{sourceHost, sourcesOf, padded, Started}
+use Rattle.histories.proofs.Seats.{Found}
+
+-- a replica that a caller named and that is not pending is one to start from
+pub started : {w : List ℕ} {z i h : ℕ} → Found w z i h → isPending (replicaIn w z (i - 1) h) ≡ false → Started w z (i - 1) h
+started f r = record { ready = record { ready = f .ready; host = f .inRange .host }; there = f .there; member = f .member; running = r }
 
 -- ---- one step back
 

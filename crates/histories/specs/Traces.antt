@@ -9,7 +9,7 @@ use Rattle.model.specs.Checks.{firstOf}
 use Rattle.model.specs.Members.{hasMember}
 use Rattle.model.specs.Replicas.{isPending}
 use Rattle.model.specs.Layout.{isInstalled, members}
-use Rattle.model.specs.Sources.{replicaIn}
+use Rattle.model.specs.Configuration.{replicaIn}
 use Rattle.lookup.specs.Ready.{ReadyHost}
 use Rattle.histories.specs.declared.trace.HostTrace.{HostTrace}
 use Rattle.histories.specs.Seats.{seatChecks}
@@ -31,14 +31,19 @@ traceOf w z j h = cond (isPending (replicaIn w z j h)) [] (sourcesOf w z j h)
 unfoldable pub traceRejection : List ℕ → ℕ → ℕ → ℕ → ℕ
 traceRejection w z i h = firstOf (seatChecks w z i h)
 
--- seven words: hosts, and 0 past them
-unfoldable pub padded : List ℕ → List ℕ
-padded l = l ++ replicate (7 - length l) 0
+-- "at most seven": one for each configuration after the first
+abbrev pub mostHosts : ℕ
+mostHosts = 7
 
--- what the function answers for index i: the hosts of configuration i − 1, or the rejection
+-- so many words: hosts, and 0 past them
+unfoldable pub padded : List ℕ → List ℕ
+padded l = l ++ replicate (mostHosts - length l) 0
+
+-- an answer with some hosts
 unfoldable pub listed : ℕ → List ℕ → HostTrace
 listed r l = record { answer = r; count = length l; hosts = padded l }
 
+-- what the function answers for index i: the hosts of the trace from configuration i − 1 on, or the rejection and none
 unfoldable pub traced : List ℕ → ℕ → ℕ → ℕ → HostTrace
 traced w z i h =
     listed (traceRejection w z i h) (cond (eqb (traceRejection w z i h) 0) (traceOf w z (i - 1) h) [])

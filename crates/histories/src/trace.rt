@@ -6,11 +6,14 @@ ghost use mathlib.Core.Path.{_≡_};
 ghost use mathlib.Core.List.{[]};
 ghost use Rattle.histories.specs.Traces.{sourcesOf, padded, listed, traced, Started};
 
-// At most seven hosts, nearest first, and 0 past them; none where the answer is a rejection.
+// A trace has at most so many hosts: one for each configuration after the first.
+pub const MOST_HOSTS: usize = 7;
+
+// Hosts, nearest first, and 0 past them; none where the answer is a rejection.
 pub struct HostTrace {
     pub answer: u64,
     pub count: u64,
-    pub hosts: [u64; 7],
+    pub hosts: [u64; MOST_HOSTS],
 }
 
 // The trace of a host's replica, which is empty where it is pending; or the rejection (1, 7, 9, 10 or 11).
@@ -40,16 +43,16 @@ fn no_hosts(answer: u64) -> HostTrace
     HostTrace {
         answer,
         count: 0,
-        hosts: [0u64; 7],
+        hosts: [0u64; MOST_HOSTS],
     }
 }
 
 // The sources of a replica that is not pending, host by host.
-fn sources(state: &[u64], z: usize, j: usize, host: u64) -> [u64; 7]
+fn sources(state: &[u64], z: usize, j: usize, host: u64) -> [u64; MOST_HOSTS]
     requires { ⌜ Started (now state) z j host ⌝ }
     ensures { λ r. ⌜ r ≡ padded (sourcesOf (now (state .entry)) z j host) ⌝ }
 {
-    let mut hosts = [0u64; 7];
+    let mut hosts = [0u64; MOST_HOSTS];
     let mut g = host;
     let mut i = j;
     while 0 < i {

@@ -16,7 +16,7 @@ use Rattle.model.proofs.WellFormed.{WellFormed, well-formed}
 use Rattle.model.proofs.WellFormedMembers.{Configured, head-installed}
 use Rattle.model.proofs.Safe.{Safe}
 use Rattle.model.proofs.SafeSetup.{safe-setup}
-use Rattle.model.proofs.Trace.{played-run}
+use Rattle.model.proofs.RunSteps.{played-run}
 use Rattle.model.proofs.Moments.{safe-at, shards-at}
 
 issue-fixed : (index shard o m : ℕ) → index < 256 → shard < 16 → o < 16 → m < 65536 → IsIssueOf index shard o m (issue index shard o m)

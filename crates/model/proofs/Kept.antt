@@ -1,6 +1,7 @@
 -- What a change of a state has to show besides well-formedness: the invariant of every shard, that nothing goes back, the issues, and where origins are from.
 -- Assumes nothing.
 use Prim.Native.Nat.{ℕ, suc, _+_, _<_}
+use native.Mathlib.Decide.{ℕ-discrete}
 use mathlib.Core.Path.{_≡_, refl, sym, subst}
 use mathlib.Core.Bool.{true}
 use mathlib.Core.List.{List}
@@ -45,6 +46,14 @@ formed {w} x = well-formed w (shards w) refl (x .several) (x .formed)
 -- a sequencer is a shard
 pub sequencer-below : {w : List ℕ} {offers : ℕ → List ℕ} → Safe w offers → (z : ℕ) → z < shards w → sequencer w z < shards w
 sequencer-below {w} x z h = WellFormedInstall.sequencer-below (shards w) z (sequencer w z) (formed x .head z h .sequenced)
+
+-- what holds of the shard z that changed, and of every other, holds of each
+pub each-shard : (P : ℕ → Type 0) (z y : ℕ) → P z → ((z ≡ y → ⊥) → P y) → P y
+each-shard P z y here other = go (ℕ-discrete z y)
+  where
+    go : Dec (z ≡ y) → P y
+    go (yes e) = subst P e here
+    go (no n) = other n
 
 -- a view that shows the same replicas, with a wider offer
 pub inv-same : {v v′ : View} {o o′ : List ℕ} → Inv v o → ((a b : ℕ) → v′ a b ≡ v a b) → Wider o o′ → Inv v′ o′

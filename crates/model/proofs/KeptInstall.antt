@@ -36,7 +36,7 @@ use Rattle.model.proofs.InstallNext.{next-length, next-other, next-inst
 use Rattle.model.proofs.WellFormedInstall.{old-vacant, issuer-proper, issue-proper, stable-issue, next-index}
 use Rattle.model.proofs.SeatedReplica.{member-view}
 use Rattle.model.proofs.Safe.{Safe, Issued}
-use Rattle.model.proofs.Kept.{From, stood, Kept, formed, sequencer-below, inv-same, issued-stays}
+use Rattle.model.proofs.Kept.{From, stood, Kept, formed, each-shard, sequencer-below, inv-same, issued-stays}
 
 -- one fact, or two others
 data Either (A B C : Type 0) : Type 0 where
@@ -94,43 +94,31 @@ module _ {w : List ℕ} {offers : ℕ → List ℕ} (x : Safe w offers) {z : ℕ
           still-unused q u (elsewhere z a b (λ s t v. l v) ∙ u)
 
   new-inv : (y : ℕ) → y < shards w → Inv (view new y) (offers y)
-  new-inv y h = go (ℕ-discrete z y)
-    where
-      go : Dec (z ≡ y) → Inv (view new y) (offers y)
-      go (yes e) = subst (λ (q : ℕ). Inv (view new q) (offers q)) e (install-keeps (x .inv z hz) seen)
-      go (no d) = inv-same (x .inv y h) (λ a b. elsewhere y a b (λ s t u. d s)) wider-refl
+  new-inv y h =
+      each-shard (λ (q : ℕ). Inv (view new q) (offers q)) z y (install-keeps (x .inv z hz) seen)
+      (λ d. inv-same (x .inv y h) (λ a b. elsewhere y a b (λ s t u. d s)) wider-refl)
 
   new-prefixes : (y a b : ℕ) → y < shards w → Begins (stablePrefix (view w y a b)) (stablePrefix (view new y a b))
-  new-prefixes y a b h = go (ℕ-discrete z y)
-    where
-      go : Dec (z ≡ y) → Begins (stablePrefix (view w y a b)) (stablePrefix (view new y a b))
-      go (yes e) =
-          subst (λ (q : ℕ). Begins (stablePrefix (view w q a b)) (stablePrefix (view new q a b))) e
-          (install-grows (x .inv z hz) seen a b)
-      go (no d) = rw (elsewhere y a b (λ s t u. d s)) begins-refl
+  new-prefixes y a b h =
+      each-shard (λ (q : ℕ). Begins (stablePrefix (view w q a b)) (stablePrefix (view new q a b))) z y (install-grows (x .inv z hz) seen a b)
+      (λ d. rw (elsewhere y a b (λ s t u. d s)) begins-refl)
 
   new-immutables : (y a b : ℕ) → y < shards w → view w y a b .mode ≡ 3 → view new y a b ≡ view w y a b
-  new-immutables y a b h i = go (ℕ-discrete z y)
-    where
-      go : Dec (z ≡ y) → view new y a b ≡ view w y a b
-      go (yes e) =
-          subst (λ (q : ℕ). view new q a b ≡ view w q a b) e
-          (immutable-stays (x .inv z hz) seen a b (subst (λ (q : ℕ). view w q a b .mode ≡ 3) (sym e) i))
-      go (no d) = elsewhere y a b (λ s t u. d s)
+  new-immutables y a b h =
+      each-shard (λ (q : ℕ). view w q a b .mode ≡ 3 → view new q a b ≡ view w q a b) z y (immutable-stays (x .inv z hz) seen a b)
+      (λ d i. elsewhere y a b (λ s t u. d s))
 
   -- the new replicas have no origin
   new-origins : (y a b g : ℕ) → y < shards w → view new y a b .origin ≡ suc g → From w y a b (view new y a b) g
   unfolding pending unused
-  new-origins y a b g h o = go (ℕ-discrete z y) (seen a b)
+  new-origins y a b g h =
+      each-shard (λ (q : ℕ). view new q a b .origin ≡ suc g → From w q a b (view new q a b) g) z y (go (seen a b))
+      (λ d o. stood (rw (elsewhere y a b (λ s t u. d s)) at o))
     where
-      in-shard : z ≡ y → view new z a b .origin ≡ suc g
-      in-shard e = subst (λ (c : ℕ). view new c a b .origin ≡ suc g) (sym e) o
-
-      go : Dec (z ≡ y) → SeenNew (view w z) (view new z) n a b → From w y a b (view new y a b) g
-      go (no d) s = stood (rw (elsewhere y a b (λ s t u. d s)) at o)
-      go (yes e) (as-it-was q s) = stood (rw (sym e) (rw s at (in-shard e)))
-      go (yes e) (now-pending p q s) = absurd (omega (arith, in-shard e, ap (λ (r : Replica). r .origin) s))
-      go (yes e) (still-unused p q s) = absurd (omega (arith, in-shard e, ap (λ (r : Replica). r .origin) s))
+      go : SeenNew (view w z) (view new z) n a b → view new z a b .origin ≡ suc g → From w z a b (view new z a b) g
+      go (as-it-was q s) o = stood (rw s at o)
+      go (now-pending p q s) o = absurd (omega (arith, o, ap (λ (r : Replica). r .origin) s))
+      go (still-unused p q s) o = absurd (omega (arith, o, ap (λ (r : Replica). r .origin) s))
 
   -- head words of an installed configuration, and the sequencer, are not written
   old-word : (y i : ℕ) → i < 64 → (z ≡ y → (1 ≡ i → ⊥) × (2 + n ≡ i → ⊥) × (10 + n ≡ i → ⊥)) → headWord new y i ≡ headWord w y i

@@ -35,16 +35,12 @@ use Rattle.model.proofs.WellFormedParts.{part-vacant}
 use Rattle.model.proofs.WellFormedMembers.{orderer-is-member, member-proper}
 use Rattle.model.proofs.SeatedReplica.{number-small, member-view}
 use Rattle.model.proofs.Safe.{Safe}
-use Rattle.model.proofs.ProperReplicas.{active-mode}
+use Rattle.model.proofs.ProperReplicas.{active-mode, pending-mode}
 use Rattle.model.proofs.Alike.{every-alike, alike-long, alike-begins}
 use Rattle.model.proofs.Kept.{From, stood, inherits, Kept, formed}
 use Rattle.model.proofs.KeptPut.{kept-put}
 
--- modes by their tests
-pending-mode : (r : Replica) → isPending r ≡ true → r .mode ≡ 1
-unfolding isPending
-pending-mode r e = eqb-true (r .mode) 1 e
-
+-- a mode by its test
 immutable-mode : (r : Replica) → isImmutable r ≡ true → r .mode ≡ 3
 unfolding isImmutable
 immutable-mode r e = eqb-true (r .mode) 3 e

@@ -3,7 +3,7 @@
 use Prim.Native.Nat.{ℕ, suc, _*_, _≤_, _<_}
 use native.Mathlib.Nat.{le-of-eq, lt-of-lt-of-le}
 use native.Mathlib.Decide.{ℕ-discrete}
-use mathlib.Core.Path.{_≡_, sym, subst, _∙_}
+use mathlib.Core.Path.{_≡_, sym, _∙_}
 use mathlib.Core.List.{List}
 use lib.ListN.{length}
 use Rattle.model.specs.Replicas.{Replica, stablePrefix}
@@ -20,7 +20,7 @@ use Rattle.model.proofs.StateViews.{view, view-in, InView, inside, outs
 use Rattle.model.proofs.Forward.{Forward}
 use Rattle.model.proofs.WellFormed.{size-of}
 use Rattle.model.proofs.Safe.{Safe}
-use Rattle.model.proofs.Kept.{From, stood, Kept, formed, inv-same, issued-stays}
+use Rattle.model.proofs.Kept.{From, stood, Kept, formed, each-shard, inv-same, issued-stays}
 
 module _ {w : List ℕ} {offers offers′ : ℕ → List ℕ} (x : Safe w offers) {z j k : ℕ} (hz : z < shards w) (hj : j < 8) (hk : k < 4)
     (r : Replica) (few : length (r .history) ≤ 56) (wide : (a : ℕ) → Wider (offers a) (offers′ a)) (m : Move (view w z) (offers′ z) j k r)
@@ -54,38 +54,30 @@ module _ {w : List ℕ} {offers offers′ : ℕ → List ℕ} (x : Safe w offers
       go a b (no p) q = there (λ s t. p s) (elsewhere z a b (λ s t u. p (sym t)))
 
   new-inv : (y : ℕ) → y < shards w → Inv (view new y) (offers′ y)
-  new-inv y h = go (ℕ-discrete z y)
-    where
-      go : Dec (z ≡ y) → Inv (view new y) (offers′ y)
-      go (yes e) = subst (λ (q : ℕ). Inv (view new q) (offers′ q)) e (keeps (x .inv z hz) (wide z) m moved)
-      go (no n) = inv-same (x .inv y h) (λ a b. elsewhere y a b (λ s t u. n s)) (wide y)
+  new-inv y h =
+      each-shard (λ (q : ℕ). Inv (view new q) (offers′ q)) z y (keeps (x .inv z hz) (wide z) m moved)
+      (λ n. inv-same (x .inv y h) (λ a b. elsewhere y a b (λ s t u. n s)) (wide y))
 
   new-prefixes : (y a b : ℕ) → y < shards w → Begins (stablePrefix (view w y a b)) (stablePrefix (view new y a b))
-  new-prefixes y a b h = go (ℕ-discrete z y)
-    where
-      go : Dec (z ≡ y) → Begins (stablePrefix (view w y a b)) (stablePrefix (view new y a b))
-      go (yes e) = rw (sym e) (moved-grows (x .inv z hz) (wide z) m moved a b)
-      go (no n) = rw (elsewhere y a b (λ s t u. n s)) begins-refl
+  new-prefixes y a b h =
+      each-shard (λ (q : ℕ). Begins (stablePrefix (view w q a b)) (stablePrefix (view new q a b))) z y
+      (moved-grows (x .inv z hz) (wide z) m moved a b)
+      (λ n. rw (elsewhere y a b (λ s t u. n s)) begins-refl)
 
   new-immutables : (y a b : ℕ) → y < shards w → view w y a b .mode ≡ 3 → view new y a b ≡ view w y a b
-  new-immutables y a b h i = go (ℕ-discrete z y)
-    where
-      go : Dec (z ≡ y) → view new y a b ≡ view w y a b
-      go (yes e) =
-          subst (λ (q : ℕ). view new q a b ≡ view w q a b) e
-          (immutable-stays (x .inv z hz) (wide z) m moved a b (subst (λ (q : ℕ). view w q a b .mode ≡ 3) (sym e) i))
-      go (no n) = elsewhere y a b (λ s t u. n s)
+  new-immutables y a b h =
+      each-shard (λ (q : ℕ). view w q a b .mode ≡ 3 → view new q a b ≡ view w q a b) z y
+      (immutable-stays (x .inv z hz) (wide z) m moved a b)
+      (λ n i. elsewhere y a b (λ s t u. n s))
 
   new-origins : (y a b g : ℕ) → y < shards w → view new y a b .origin ≡ suc g → From w y a b (view new y a b) g
-  new-origins y a b g h o = go (ℕ-discrete z y) (moved .seen a b)
+  new-origins y a b g h =
+      each-shard (λ (q : ℕ). view new q a b .origin ≡ suc g → From w q a b (view new q a b) g) z y (go (moved .seen a b))
+      (λ n o. stood (rw (elsewhere y a b (λ s t u. n s)) at o))
     where
-      in-shard : z ≡ y → view new z a b .origin ≡ suc g
-      in-shard e = subst (λ (c : ℕ). view new c a b .origin ≡ suc g) (sym e) o
-
-      go : Dec (z ≡ y) → Seen (view w z) (view new z) j k r a b → From w y a b (view new y a b) g
-      go (no n) s = stood (rw (elsewhere y a b (λ s t u. n s)) at o)
-      go (yes e) (there n q) = stood (rw (sym e) (rw q at (in-shard e)))
-      go (yes e) (here p q s) = rw (sym e, s, p, q) (from g (rw s at (in-shard e)))
+      go : Seen (view w z) (view new z) j k r a b → view new z a b .origin ≡ suc g → From w z a b (view new z a b) g
+      go (there n q) o = stood (rw q at o)
+      go (here p q s) o = rw (s, p, q) (from g (rw s at o))
 
   below-eight : (y a : ℕ) → y < shards w → a < installed w y → a < 8
   below-eight y a h l = lt-of-lt-of-le l (formed x .head y h .most)

@@ -52,7 +52,7 @@ pub mod KeptInstall
 pub mod SafeStep
 pub mod SafeSetup
 -- Runs
-pub mod Trace
+pub mod RunSteps
 pub mod ReferenceShard
 pub mod Moments
 pub mod OneList

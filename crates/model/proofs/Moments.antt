@@ -10,7 +10,7 @@ use Rattle.model.specs.declared.step.Step.{Step}
 use Rattle.model.specs.Runs.{Moment, stateAt}
 use Rattle.model.specs.Reference.{Reference, atSetup, isAddIn, fed, fedAt, beforeAccepting, acceptAll}
 use Rattle.model.specs.OneList.{shards}
-use Rattle.model.proofs.Trace.{Run, Next, stepped, rested, next}
+use Rattle.model.proofs.RunSteps.{Run, Next, stepped, rested, next}
 use Rattle.model.proofs.ReferenceShard.{accepted-offer}
 use Rattle.model.proofs.Forward.{Forward, forward-refl, forward-trans, forward-shards}
 use Rattle.model.proofs.Safe.{Safe, offersAfter}

@@ -32,7 +32,7 @@ use Rattle.model.proofs.SeatedReplica.{member-view, seated-view}
 use Rattle.model.proofs.Safe.{Safe}
 use Rattle.model.proofs.Kept.{formed, sequencer-below}
 use Rattle.model.proofs.SafeSetup.{safe-setup}
-use Rattle.model.proofs.Trace.{Run, played-run, Answered, answered, silent, answer}
+use Rattle.model.proofs.RunSteps.{Run, played-run, Answered, answered, silent, answer}
 use Rattle.model.proofs.Moments.{offersAt, safe-at}
 
 module _ {w : List ℕ} {offers : ℕ → List ℕ} (x : Safe w offers) where

@@ -25,7 +25,7 @@ use Rattle.model.proofs.Histories.{none-offered}
 use Rattle.model.proofs.Views.{Inv}
 use Rattle.model.proofs.StateViews.{view, stable-begins, stable-once, stable-offered, stable-grows}
 use Rattle.model.proofs.Forward.{Forward, forward-shards}
-use Rattle.model.proofs.Trace.{Run, played-run}
+use Rattle.model.proofs.RunSteps.{Run, played-run}
 use Rattle.model.proofs.ReferenceShard.{accepted-history, fed-history, may-accept}
 use Rattle.model.proofs.Safe.{Safe}
 use Rattle.model.proofs.SafeSetup.{safe-setup}

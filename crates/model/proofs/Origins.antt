@@ -22,6 +22,13 @@ source-place w z j g = ap (replicaAt w) (replica-place w z (j - 1) g)
 
 -- ---- the tests of an origin x in configuration j
 
+pub member-named : (m x : ℕ) → namesMember m x ≡ true → (1 ≤ x) × (x ≤ 16) × (hasMember m (x - 1) ≡ true)
+unfolding namesMember
+member-named m x e =
+    let least : leb 1 x ≡ true = search (and-left, and-right) in
+    let most : leb x 16 ≡ true = search (and-left, and-right) in
+    (leb-true 1 x least, leb-true x 16 most, search (and-left, and-right))
+
 pub record Named (w : List ℕ) (z j x : ℕ) : Type 0 where
   pub least : 1 ≤ x
   pub most : x ≤ 16
@@ -29,15 +36,14 @@ pub record Named (w : List ℕ) (z j x : ℕ) : Type 0 where
   pub running : isPending (source w z j (x - 1)) ≡ false
 
 pub named : (w : List ℕ) (z j x : ℕ) → namesSource w z j x ≡ true → Named w z j x
-unfolding namesSource namesMember
+unfolding namesSource
 named w z j x e =
-    let least : leb 1 x ≡ true = search (and-left, and-right) in
-    let most : leb x 16 ≡ true = search (and-left, and-right) in
+    let host = member-named (members w z (j - 1)) x (search (and-left, and-right)) in
     let running : not (isPending (source w z j (x - 1))) ≡ true = search (and-left, and-right) in
     record {
-      least = leb-true 1 x least;
-      most = leb-true x 16 most;
-      member = search (and-left, and-right);
+      least = host .0;
+      most = host .1;
+      member = host .2;
       running = not-true (isPending (source w z j (x - 1))) running;
     }
 

@@ -16,7 +16,7 @@ pub active-mode : (r : Replica) → isActive r ≡ true → r .mode ≡ 2
 unfolding isActive
 active-mode r e = eqb-true (r .mode) 2 e
 
-pending-mode : (r : Replica) → isPending r ≡ true → r .mode ≡ 1
+pub pending-mode : (r : Replica) → isPending r ≡ true → r .mode ≡ 1
 unfolding isPending
 pending-mode r e = eqb-true (r .mode) 1 e
 

@@ -10,11 +10,12 @@ use borrow.Author.Tests.{ltb-true, eq-eqb}
 use Rattle.model.specs.Members.{hasMember, replicaNumber}
 use Rattle.model.specs.Replicas.{Replica, unused, isPending, isImmutable, inherited}
 use Rattle.model.specs.Layout.{installed, isInstalled, members}
+use Rattle.model.specs.Configuration.{replicaIn}
 use Rattle.model.specs.Inherit.{source}
 use Rattle.model.specs.Setup.{afterSetup}
 use Rattle.model.specs.Runs.{Moment, stateAt}
 use Rattle.model.specs.OneList.{shards, Seated}
-use Rattle.model.specs.Sources.{replicaIn, Began, SourcesClaim}
+use Rattle.model.specs.Sources.{Began, SourcesClaim}
 use Rattle.model.proofs.StateViews.{view, InView, inside, outside, in-view}
 use Rattle.model.proofs.SeatedReplica.{member-view}
 use Rattle.model.proofs.WellFormedMembers.{head-open, size-none}
@@ -24,7 +25,7 @@ use Rattle.model.proofs.Kept.{Source, From, stood, inherits, formed}
 use Rattle.model.proofs.KeptKinds.{in-use}
 use Rattle.model.proofs.SafeStep.{safe-step}
 use Rattle.model.proofs.SafeSetup.{safe-setup, setup-origin}
-use Rattle.model.proofs.Trace.{Run, played-run, Next, stepped, rested, next}
+use Rattle.model.proofs.RunSteps.{Run, played-run, Next, stepped, rested, next}
 use Rattle.model.proofs.Moments.{offersAt, safe-at, forward-to, shards-at}
 
 -- a source's replica, as the view shows it

@@ -53,18 +53,18 @@ pub size-none : (m : ℕ) → m ≡ 0 → size m ≡ 0
 unfolding ones
 size-none m e = ap ones e
 
+pub head-few : (w : List ℕ) (z j : ℕ) → isHeadOf w z j ≡ true → size (members w z j) ≤ 4
+head-few w z j e = go (isInstalled w z j) refl
+  where
+    go : (b : Bool) → isInstalled w z j ≡ b → size (members w z j) ≤ 4
+    go true i = head-installed w z j e i .size-most
+    go false i = omega (arith, size-none (members w z j) (head-open w z j e i))
+
 -- ---- the configurations of a well-formed state
 
 module _ {Z : ℕ} {w : List ℕ} (f : WellFormed Z w) {z j : ℕ} (hz : z < Z) (hj : j < 8) where
   pub size-few : size (members w z j) ≤ 4
-  size-few = go (isInstalled w z j) refl
-    where
-      head : isHeadOf w z j ≡ true
-      head = f .head z hz .configured j hj
-
-      go : (b : Bool) → isInstalled w z j ≡ b → size (members w z j) ≤ 4
-      go true i = head-installed w z j head i .size-most
-      go false i = omega (arith, size-none (members w z j) (head-open w z j head i))
+  size-few = head-few w z j (f .head z hz .configured j hj)
 
   pub orderer-is-member : isInstalled w z j ≡ true → hasMember (members w z j) (orderer w z j) ≡ true
   orderer-is-member i = head-installed w z j (f .head z hz .configured j hj) i .has

@@ -17,3 +17,7 @@ replicaPlace c h = c .place + partWords * replicaNumber (c .members) h
 -- "The seat" of a host, and the orderer's
 unfoldable pub replicaOf : List ℕ → Configuration → ℕ → Replica
 replicaOf w c h = replicaAt w (replicaPlace c h)
+
+-- .. in configuration j of shard z
+unfoldable pub replicaIn : List ℕ → ℕ → ℕ → ℕ → Replica
+replicaIn w z j h = replicaOf w (configuration w z j) h

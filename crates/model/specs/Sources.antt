@@ -4,16 +4,12 @@ use Prim.Native.Nat.{ℕ, suc, _-_, _<_}
 use mathlib.Core.Path.{_≡_}
 use mathlib.Core.Bool.{true}
 use mathlib.Core.List.{List}
-use Rattle.model.specs.Replicas.{Replica, isPending, isImmutable, inherited}
-use Rattle.model.specs.Configuration.{configuration, replicaOf}
+use Rattle.model.specs.Replicas.{isPending, isImmutable, inherited}
+use Rattle.model.specs.Configuration.{replicaIn}
 use Rattle.model.specs.Inherit.{source}
 use Rattle.model.specs.Setup.{setupRejection, afterSetup}
 use Rattle.model.specs.Runs.{Call, Moment, played, stateAt}
 use Rattle.model.specs.OneList.{Seated}
-
--- the replica of host h in configuration j of shard z
-unfoldable pub replicaIn : List ℕ → ℕ → ℕ → ℕ → Replica
-replicaIn w z j h = replicaOf w (configuration w z j) h
 
 -- how it began: it was pending at a moment before n, and then became what inherit makes of host g's replica in the configuration before. That one is now,
 -- at moment n, as it was then

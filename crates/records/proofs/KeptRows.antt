@@ -12,7 +12,7 @@ use Rattle.model.specs.Setup.{afterSetup}
 use Rattle.model.specs.OneList.{shards}
 use Rattle.model.specs.StableGrowth.{StableGrows, StableGrowth}
 use Rattle.model.proofs.Prefixes.{begins-le, begins-getD}
-use Rattle.model.proofs.Trace.{played-run}
+use Rattle.model.proofs.RunSteps.{played-run}
 use Rattle.model.proofs.SafeSetup.{safe-setup}
 use Rattle.model.proofs.Moments.{shards-at}
 use Rattle.model.proofs.StableGrowth.{stable-growth}

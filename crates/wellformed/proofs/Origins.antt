@@ -5,32 +5,32 @@ use native.Mathlib.Decide.{decLt}
 use mathlib.Core.Path.{_≡_, refl, sym, ap, subst, _∙_}
 use mathlib.Core.Bool.{Bool, true, false, not, _&&_, _||_, or-true}
 use mathlib.Core.List.{List}
-use lib.Dec.{leb, ltb, eqb}
+use lib.Dec.{ltb, eqb}
 use lib.Count.{ones}
 use lib.ListN.{length, getD}
-use borrow.Author.Tests.{leb-true, lt-ltb, le-ltb, eq-eqb, ne-eqb, not-true}
+use borrow.Author.Tests.{lt-ltb, le-ltb, eq-eqb, ne-eqb, not-true}
 use Rattle.model.specs.declared.configuration.Configuration.{Configuration}
 use Rattle.model.specs.Tests.{allBelow}
-use Rattle.model.specs.Members.{size, hasMember, replicaNumber}
+use Rattle.model.specs.Members.{replicaNumber}
 use Rattle.model.specs.Replicas.{isPending}
-use Rattle.model.specs.Layout.{place, isInstalled, members, orderer, replicaAt}
+use Rattle.model.specs.Layout.{place, members, orderer, replicaAt}
 use Rattle.model.specs.Configuration.{replicaPlace}
 use Rattle.model.specs.Inherit.{source}
 use Rattle.model.specs.Origins.{namesMember, namesSource, isOriginOf}
-use Rattle.model.specs.WellFormed.{isHeadOf, isConfigurationOf}
+use Rattle.model.specs.WellFormed.{isConfigurationOf}
 use Rattle.model.proofs.Tests.{and-left, and-right, all-below, below-all}
 use Rattle.model.proofs.Ranges.{same-test, alike}
 use Rattle.model.proofs.Heads.{members-word}
 use Rattle.model.proofs.Fields.{origin-word, pending-word}
 use Rattle.model.proofs.Members.{number-below}
-use Rattle.model.proofs.Origins.{source-place, has-source}
-use Rattle.model.proofs.WellFormedMembers.{head-installed, head-open, size-none}
+use Rattle.model.proofs.Origins.{source-place, has-source, member-named}
+use Rattle.model.proofs.WellFormedMembers.{head-few}
 use Rattle.wellformed.specs.Before.{FewBefore}
 use Rattle.wellformed.proofs.Configurations.{membersWord, firstPlace}
 
 -- ---- one replica
 
--- its word 3, and the members of the configuration before
+-- its word 3, and its mode
 abbrev pub originWord : List ℕ → ℕ → ℕ → ℕ → ℕ
 originWord w z j k = getD w (place z j k + 3) 0
 
@@ -61,14 +61,6 @@ is-running w at n = rw (pending-word w at, ne-eqb (getD w at 0) 1 n)
 
 -- ---- an origin x that names a member of the configuration before
 
-pub member-named : (m x : ℕ) → true ≡ namesMember m x → (1 ≤ x) × (x ≤ 16) × (hasMember m (x - 1) ≡ true)
-unfolding namesMember
-member-named m x e =
-    let passed : (leb 1 x && leb x 16 && hasMember m (x - 1)) ≡ true = sym e in
-    let least : leb 1 x ≡ true = search (and-left, and-right) in
-    let most : leb x 16 ≡ true = search (and-left, and-right) in
-    (leb-true 1 x least, leb-true x 16 most, search (and-left, and-right))
-
 -- places by their numbers
 numbered : (z j n : ℕ) → firstPlace z j + (0 + 64 * n) ≡ place z j n
 unfolding place
@@ -85,7 +77,7 @@ atStart m = record { place = 0; members = m; orderer = 0 }
 -- .. has a named member's replica among its first four
 within-four : (m x : ℕ) → ones m ≤ 4 → true ≡ namesMember m x → replicaPlace (atStart m) (x - 1) + 64 ≤ 256
 unfolding replicaPlace
-within-four m x h e = omega (arith, number-below m (x - 1) (member-named m x e .2))
+within-four m x h e = omega (arith, number-below m (x - 1) (member-named m x (sym e) .2))
 
 few-word : (w : List ℕ) (z j : ℕ) → 1 ≤ j → FewBefore w z j → ones (membersWord w z (j - 1)) ≤ 4
 few-word w z j h f = rw (← members-word w z (j - 1)) (f .few h)
@@ -141,7 +133,7 @@ module _ (w : List ℕ) (z j p : ℕ) (h : 1 ≤ j) (f : FewBefore w z j) (here 
   running x e =
       rw (source-place w z j (x - 1))
       (none-at w z (j - 1) (p - 256) _ before last
-      (omega (arith, number-below (members w z (j - 1)) (x - 1) (member-named (members w z (j - 1)) x (sym e) .2), f .few h)))
+      (omega (arith, number-below (members w z (j - 1)) (x - 1) (member-named (members w z (j - 1)) x e .2), f .few h)))
 
   named-only : (x : ℕ) → namesMember (members w z (j - 1)) x ≡ namesSource w z j x
   unfolding namesSource
@@ -168,13 +160,6 @@ module _ (w : List ℕ) (z j p : ℕ) (h : 1 ≤ j) (f : FewBefore w z j) (here 
       (λ k l. one-origin k (omega arith))
 
 -- ---- the configurations before are well-formed, so the one before has few members
-
-head-few : (w : List ℕ) (z j : ℕ) → isHeadOf w z j ≡ true → size (members w z j) ≤ 4
-head-few w z j e = go (isInstalled w z j) refl
-  where
-    go : (b : Bool) → isInstalled w z j ≡ b → size (members w z j) ≤ 4
-    go true i = head-installed w z j e i .size-most
-    go false i = omega (arith, size-none (members w z j) (head-open w z j e i))
 
 pub few-before : (w : List ℕ) (Z z j : ℕ) → true ≡ allBelow j (isConfigurationOf w Z z) → FewBefore w z j
 unfolding isConfigurationOf

@@ -189,32 +189,33 @@ pub fn stable_history(state: &[u64], shard: u64, out: &mut [u64], count: &mut [u
 
 /// Copies the stable prefix of a replica; the first word of `count` becomes the number of its entries.
 #[inline]
-pub fn stable_prefix(
-    state: &[u64],
-    Seat { shard, index, host }: Seat,
-    out: &mut [u64],
-    count: &mut [u64],
-) -> u64 {
-    // SAFETY: pointers and lengths are those of slices; outputs are borrowed mutably, so none overlap, and the
-    // header promises that `state` is only read.
-    unsafe {
-        c::penkwadar_stable_prefix(
-            state.as_ptr(),
-            state.len(),
-            shard,
-            index,
-            host,
-            out.as_mut_ptr(),
-            out.len(),
-            count.as_mut_ptr(),
-            count.len(),
-        )
-    }
+pub fn stable_prefix(state: &[u64], seat: Seat, out: &mut [u64], count: &mut [u64]) -> u64 {
+    read_seat(c::penkwadar_stable_prefix, state, seat, out, count)
 }
 
 /// Writes the hosts from which a replica's history came, nearest first; the first word of `count` becomes their number.
 #[inline]
-pub fn trace(
+pub fn trace(state: &[u64], seat: Seat, out: &mut [u64], count: &mut [u64]) -> u64 {
+    read_seat(c::penkwadar_trace, state, seat, out, count)
+}
+
+/// A function of the header that reads a state at a seat and writes words and their count.
+type ReadSeat = unsafe extern "C" fn(
+    state: *const u64,
+    state_len: usize,
+    zone: u64,
+    index: u64,
+    host: u64,
+    out: *mut u64,
+    out_len: usize,
+    count: *mut u64,
+    count_len: usize,
+) -> u64;
+
+/// Calls one.
+#[inline]
+fn read_seat(
+    call: ReadSeat,
     state: &[u64],
     Seat { shard, index, host }: Seat,
     out: &mut [u64],
@@ -223,7 +224,7 @@ pub fn trace(
     // SAFETY: pointers and lengths are those of slices; outputs are borrowed mutably, so none overlap, and the
     // header promises that `state` is only read.
     unsafe {
-        c::penkwadar_trace(
+        call(
             state.as_ptr(),
             state.len(),
             shard,

@@ -2,7 +2,8 @@
 use native.Mathlib.Omega.{arith}
 use mathlib.Core.Path.{sym, _∙_}
 use borrow.Author.Tests.{not-true, not-false}
-use Rattle.wellformed.proofs.Origins.{member-named, names-none, source-fits, names-mode}
+use Rattle.model.proofs.Origins.{member-named}
+use Rattle.wellformed.proofs.Origins.{names-none, source-fits, names-mode}
 use borrow.Author.Needs.{needs}
 use Rattle.wellformed.proofs.origin.names_source.Statement.{statement}
 use Rattle.wellformed.proofs.origin.names_source.Tie as tie
@@ -45,11 +46,11 @@ add-first-2 c = search needs
 
 sub-replica : tie.Need-sub-replica
 sub-replica c =
-    omega (arith, member-named _ _ (sym (not-false _ (c .if1 .left)) ∙ c .before .names-member .ensures) .0)
+    omega (arith, member-named _ _ (sym (c .before .names-member .ensures) ∙ not-false _ (c .if1 .left)) .0)
 
 replica-requires : tie.Need-replica-requires
 replica-requires c κs =
-    (omega (arith, member-named _ _ (sym (not-false _ (c .if1 .left)) ∙ c .before .names-member .ensures) .1), omega arith)
+    (omega (arith, member-named _ _ (sym (c .before .names-member .ensures) ∙ not-false _ (c .if1 .left)) .1), omega arith)
 
 add-result : tie.Need-add-result
 add-result c =
