@@ -69,8 +69,8 @@ extern "C" {
 #define PENKWADAR_SEAT_MODE 0    /* one of the modes below */
 #define PENKWADAR_SEAT_LENGTH 1  /* entries in the list */
 #define PENKWADAR_SEAT_STABLE 2  /* of these, so many first ones are stable (confirmed) */
-#define PENKWADAR_SEAT_ORIGIN 3  /* the box from which it inherited, of the index before, plus 1; 0 where it is pending,
-                                    unused or of index 1 */
+#define PENKWADAR_SEAT_ORIGIN 3  /* the box from which it inherited, of the index before, plus 1; that of its peer where
+                                    it caught up; 0 where it is pending, unused or of index 1 */
 #define PENKWADAR_SEAT_ENTRIES 8 /* the first entry; words 4 to 7 and those past the list are 0 */
 
 #define PENKWADAR_UNUSED 0
@@ -81,25 +81,28 @@ extern "C" {
 /* ---- Steps ----
  *
  * A step is a kind and four numbers, 0 where the kind does not use one. */
-#define PENKWADAR_ADD 1     /* zone, index, entry: the entry goes last in the list of the index's orderer */
-#define PENKWADAR_ADOPT 2   /* zone, index, box: the box's list becomes the orderer's */
-#define PENKWADAR_LEARN 3   /* zone, index, box, length: so many first entries are stable at the box, where all lists of
-                               the index begin alike so far */
-#define PENKWADAR_WEDGE 4   /* zone, index, box: the box's list becomes immutable */
-#define PENKWADAR_INSTALL 5 /* zone; index and box in its sequencer, place from 0 in that box's list: the next index of
-                               the zone is what is issued there, its members pending */
-#define PENKWADAR_INHERIT 6 /* zone, index, box, source: the pending box begins with the list of an immutable box of the
-                               index before, and its seat notes which box that is */
+#define PENKWADAR_ADD 1      /* zone, index, entry: the entry goes last in the list of the index's orderer */
+#define PENKWADAR_ADOPT 2    /* zone, index, box: the box's list becomes the orderer's */
+#define PENKWADAR_LEARN 3    /* zone, index, box, length: so many first entries are stable at the box, where all lists
+                                of the index begin alike so far */
+#define PENKWADAR_WEDGE 4    /* zone, index, box: the box's list becomes immutable */
+#define PENKWADAR_INSTALL 5  /* zone; index and box in its sequencer, place from 0 in that box's list: the next index of
+                                the zone is what is issued there, its members pending */
+#define PENKWADAR_INHERIT 6  /* zone, index, box, source: the pending box begins with the list of an immutable box of
+                                the index before, and its seat notes which box that is */
+#define PENKWADAR_CATCH_UP 7 /* zone, index, box, peer: the pending box begins with the list of another box of the same
+                                index that is not pending, and its seat notes the same source */
 
 /* ---- Rejections ----
  *
  * Of a step, in this order: 1, 3, 4, 7, 9, and then of an add 10, 12, 17, 15, 23, 16; an adopt 10, 11, 14, 12, 13; a
- * learn 10, 11, 12, 18, 19; a wedge 10, 11, 12; an install 10, 11, 20, 21, 22; an inherit 10, 11, 12, 13. */
+ * learn 10, 11, 12, 18, 19; a wedge 10, 11, 12; an install 10, 11, 20, 21, 22; an inherit and a catch-up
+ * 10, 11, 12, 13. */
 
 /* because of the input */
 #define PENKWADAR_STATE_LENGTH 1   /* the state's length is no 2,112 x Z, Z from 2 to 8 */
 #define PENKWADAR_PLAN 2           /* the plan's length is not 3 x Z, or its zones are not well-formed */
-#define PENKWADAR_KIND_KEPT 3      /* kind 7 to 31 */
+#define PENKWADAR_KIND_KEPT 3      /* kind 8 to 31 */
 #define PENKWADAR_KIND_UNKNOWN 4   /* kind 0 or above 31 */
 #define PENKWADAR_BYTES_END 5      /* the log ends inside a step */
 #define PENKWADAR_NUMBER_BYTES 6   /* a number's fifth byte goes on, or its last of several bytes is 0 */
@@ -113,7 +116,8 @@ extern "C" {
 #define PENKWADAR_NOT_INSTALLED 10    /* the index is not installed (install: in the sequencer) */
 #define PENKWADAR_NO_MEMBER 11        /* the box is no member of the index */
 #define PENKWADAR_ACTING_MODE 12      /* the acting seat has the wrong mode; of an add, the orderer's */
-#define PENKWADAR_OTHER_MODE 13       /* the other seat has the wrong mode, or an inherit's source is no member */
+#define PENKWADAR_OTHER_MODE 13       /* the other seat has the wrong mode, or an inherit's source or a catch-up's peer
+                                         is no member */
 #define PENKWADAR_BY_ORDERER 14       /* adopt by the orderer */
 #define PENKWADAR_ENTRY_HELD 15       /* the list has the entry already */
 #define PENKWADAR_LIST_FULL 16        /* the list holds 56 entries */
@@ -189,7 +193,8 @@ uint64_t penkwadar_stable_history(const uint64_t *state, size_t state_len, uint6
 
 /* The trace of a box's seat: the first word of count becomes how many boxes it has, and the first words of out become
  * these boxes, nearest first: the one from which the seat inherited, in the index before, the one from which that box's
- * seat there inherited, and so on back to index 1. A pending seat has none, any other exactly index - 1.
+ * seat there inherited, and so on back to index 1; a seat that caught up has the boxes of its peer. A pending seat has
+ * none, any other exactly index - 1.
  * Rejections: 8 (count_len below 1 or out_len below PENKWADAR_TRACE_BOXES), then 1, 7 (zone not below Z, index not 1 to
  * 8, box above 15), 9, 10, 11. */
 uint64_t penkwadar_trace(const uint64_t *state, size_t state_len, uint64_t zone, uint64_t index, uint64_t box,

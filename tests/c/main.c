@@ -18,7 +18,8 @@ enum {
     LEARN = PENKWADAR_LEARN,
     WEDGE = PENKWADAR_WEDGE,
     INSTALL = PENKWADAR_INSTALL,
-    INHERIT = PENKWADAR_INHERIT
+    INHERIT = PENKWADAR_INHERIT,
+    CATCH_UP = PENKWADAR_CATCH_UP
 };
 enum { PENDING = PENKWADAR_PENDING, ACTIVE = PENKWADAR_ACTIVE, IMMUTABLE = PENKWADAR_IMMUTABLE };
 
@@ -135,7 +136,9 @@ static void check_rejected_steps(void)
     CHECK(step(LEARN, 0, 1, 0, 0) == PENKWADAR_NOT_ABOVE_STABLE && state_unchanged());
     CHECK(step(INSTALL, 1, 1, 0, 0) == PENKWADAR_NO_STABLE_ISSUE && state_unchanged());
     CHECK(step(INHERIT, 0, 1, 0, 0) == PENKWADAR_ACTING_MODE && state_unchanged());
-    CHECK(step(7, 0, 0, 0, 0) == PENKWADAR_KIND_KEPT && state_unchanged());
+    CHECK(step(CATCH_UP, 0, 1, 0, 1) == PENKWADAR_ACTING_MODE && state_unchanged());
+    CHECK(step(CATCH_UP, 0, 1, 0, 16) == PENKWADAR_RANGE && state_unchanged());
+    CHECK(step(8, 0, 0, 0, 0) == PENKWADAR_KIND_KEPT && state_unchanged());
     CHECK(step(0, 0, 0, 0, 0) == PENKWADAR_KIND_UNKNOWN && state_unchanged());
     /* Boxes 3 and 5 for index 2 of zone 1 are issued by zone 0 only. */
     CHECK(step(ADD, 1, 1, ISSUE, 0) == PENKWADAR_OTHER_SEQUENCER && state_unchanged());
@@ -233,6 +236,22 @@ static void check_trace(void)
     CHECK(all_words(out + 1, PENKWADAR_TRACE_BOXES, UNWRITTEN) && state_unchanged());
 }
 
+/* Box 5 catches up from box 3: it has that one's list, and the box from which that one began. */
+static void check_catch_up(void)
+{
+    const uint64_t *peer = state + PENKWADAR_SEAT(1, 2, 0), *heir = state + PENKWADAR_SEAT(1, 2, 1);
+    uint64_t out[PENKWADAR_TRACE_BOXES], count;
+    CHECK(step(CATCH_UP, 1, 3, 5, 3) == PENKWADAR_NOT_INSTALLED && state_unchanged());
+    CHECK(step(CATCH_UP, 1, 2, 2, 3) == PENKWADAR_NO_MEMBER && state_unchanged());
+    CHECK(step(CATCH_UP, 1, 2, 3, 3) == PENKWADAR_ACTING_MODE && state_unchanged());
+    CHECK(step(CATCH_UP, 1, 2, 5, 2) == PENKWADAR_OTHER_MODE && state_unchanged());
+    CHECK(step(CATCH_UP, 1, 2, 5, 5) == PENKWADAR_OTHER_MODE && state_unchanged());
+    CHECK(step(CATCH_UP, 1, 2, 5, 3) == 0);
+    CHECK(heir[0] == ACTIVE && heir[8] == 300 && memcmp(heir, peer, 64 * sizeof *heir) == 0);
+    CHECK(step(CATCH_UP, 1, 2, 5, 3) == PENKWADAR_ACTING_MODE && state_unchanged());
+    CHECK(penkwadar_trace(state, WORDS, 1, 2, 5, out, 7, &count, 1) == 0 && count == 1 && out[0] == 2);
+}
+
 /* The stable histories as rows: of zone 0 the take and the issue, of zone 1 none. */
 static void check_csv(void)
 {
@@ -269,6 +288,8 @@ static void check_read(void)
     CHECK(penkwadar_read_step(log, sizeof log, 0, words, 5) == PENKWADAR_OUTPUT_SHORT);
     CHECK(penkwadar_read_step(log, 3, 0, words, 7) == PENKWADAR_BYTES_END);
     CHECK(penkwadar_read_step((const uint8_t[]){0x80, 0}, 2, 0, words, 7) == PENKWADAR_NUMBER_BYTES);
+    CHECK(penkwadar_read_step((const uint8_t[]){7, 1, 2, 5}, 4, 0, words, 7) == PENKWADAR_BYTES_END);
+    CHECK(penkwadar_read_step((const uint8_t[]){8}, 1, 0, words, 7) == PENKWADAR_KIND_KEPT);
     CHECK(penkwadar_read_step((const uint8_t[]){31}, 1, 0, words, 7) == PENKWADAR_KIND_KEPT);
     CHECK(penkwadar_read_step((const uint8_t[]){32}, 1, 0, words, 7) == PENKWADAR_KIND_UNKNOWN);
     CHECK(all_words(words, 7, UNWRITTEN));
@@ -361,6 +382,7 @@ int main(void)
     check_stable_prefix();
     check_reconfiguration();
     check_trace();
+    check_catch_up();
     check_csv();
     check_wedge();
     check_read();

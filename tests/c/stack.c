@@ -12,13 +12,15 @@
 #define WORDS (2 * PENKWADAR_ZONE_WORDS)
 #define STACK (512 * 1024)
 #define PAINT 0xa5
+#define STEPS 7
 #define ISSUE PENKWADAR_ISSUE(2, 1, 3, PENKWADAR_MEMBER(3) + PENKWADAR_MEMBER(5))
 
 /* The program's plan, and a step of each kind that is accepted in turn. */
 static const uint64_t plan[6] = {1, 3, 0, 0, 12, 2};
-static const uint64_t steps[6][5] = {{PENKWADAR_ADD, 0, 1, ISSUE, 0},   {PENKWADAR_ADOPT, 0, 1, 1, 0},
-                                     {PENKWADAR_LEARN, 0, 1, 1, 1},     {PENKWADAR_WEDGE, 1, 1, 2, 0},
-                                     {PENKWADAR_INSTALL, 1, 1, 1, 0}, {PENKWADAR_INHERIT, 1, 2, 3, 2}};
+static const uint64_t steps[STEPS][5] = {{PENKWADAR_ADD, 0, 1, ISSUE, 0},  {PENKWADAR_ADOPT, 0, 1, 1, 0},
+                                         {PENKWADAR_LEARN, 0, 1, 1, 1},    {PENKWADAR_WEDGE, 1, 1, 2, 0},
+                                         {PENKWADAR_INSTALL, 1, 1, 1, 0},  {PENKWADAR_INHERIT, 1, 2, 3, 2},
+                                         {PENKWADAR_CATCH_UP, 1, 2, 5, 3}};
 
 static unsigned char stack[STACK];
 static uint64_t state[WORDS], words[PENKWADAR_LIST_ENTRIES], count[1], answers;
@@ -63,7 +65,7 @@ static size_t larger(size_t a, size_t b) { return a < b ? b : a; }
 
 int main(void) {
     size_t most = larger(used(state_words), used(setup));
-    for (turn = 0; turn < 6; turn++) {
+    for (turn = 0; turn < STEPS; turn++) {
         most = larger(most, larger(used(step), used(write_step)));
         log_len += count[0];
     }
@@ -71,7 +73,7 @@ int main(void) {
     most = larger(most, used(trace));
     most = larger(most, larger(used(setup), used(read_step)));
     most = larger(most, used(replay));
-    int accepted = words[0] == PENKWADAR_ENDED && words[1] == 6 && words[2] == 0;
+    int accepted = words[0] == PENKWADAR_ENDED && words[1] == STEPS && words[2] == 0;
     size_t around = used(nothing), transcripts = used(transcript) - around;
     most -= around;
     printf("stack: at most %zu bytes, a transcript %zu\n", most, transcripts);

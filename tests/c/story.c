@@ -63,6 +63,11 @@ static void inherit(uint64_t zone, uint64_t index, uint64_t box, uint64_t source
     accepted(penkwadar_step(state, state_len, PENKWADAR_INHERIT, zone, index, box, source), "inherit");
 }
 
+static void catch_up(uint64_t zone, uint64_t index, uint64_t box, uint64_t peer)
+{
+    accepted(penkwadar_step(state, state_len, PENKWADAR_CATCH_UP, zone, index, box, peer), "catch up");
+}
+
 static void print_list(const char *name, const uint64_t *list, uint64_t count)
 {
     printf("%s:", name);
@@ -105,9 +110,10 @@ int main(void)
     learn(BALCONY, 1, 2, 2);
     show("box 3 of the balcony", 1, 3);
 
-    /* Box 3 drops out. The stage appoints the balcony's boxes: it issues boxes 2 and 6, with orderer 6, for index 2,
+    /* Box 3 drops out. The stage appoints the balcony's boxes: it issues boxes 2, 6 and 7, with orderer 6, for index 2,
      * and its own boxes have to confirm that. */
-    add(STAGE, 1, PENKWADAR_ISSUE(2, BALCONY, 6, PENKWADAR_MEMBER(2) + PENKWADAR_MEMBER(6)));
+    add(STAGE, 1,
+        PENKWADAR_ISSUE(2, BALCONY, 6, PENKWADAR_MEMBER(2) + PENKWADAR_MEMBER(6) + PENKWADAR_MEMBER(7)));
     adopt(STAGE, 1, 5);
     learn(STAGE, 1, 5, 1);
 
@@ -121,9 +127,15 @@ int main(void)
     show("box 6, after inheriting", 2, 6);
     trace("it began from box", 2, 6);
 
+    /* The other new one, box 7, reaches its neighbour, box 6, before box 2, and begins with that one's list. */
+    catch_up(BALCONY, 2, 7, 6);
+    show("box 7, after catching up", 2, 7);
+    trace("its list began from box", 2, 7);
+
     /* The new orderer, box 6, takes take 13. */
     add(BALCONY, 2, 13);
     adopt(BALCONY, 2, 2);
+    adopt(BALCONY, 2, 7);
     learn(BALCONY, 2, 6, 3);
     show("box 6 of the balcony", 2, 6);
     show("box 3, read once more", 1, 3);

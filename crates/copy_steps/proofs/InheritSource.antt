@@ -1,6 +1,6 @@
 -- The source of an inherit: a host of the configuration before, which is there wherever a replica is pending.
 -- Assumes nothing.
-use Prim.Native.Nat.{ℕ, _-_, _≤_}
+use Prim.Native.Nat.{ℕ, _-_}
 use native.Mathlib.Omega.{arith}
 use mathlib.Core.Path.{_≡_, refl, ap, _∙_}
 use mathlib.Core.Bool.{Bool, true, false, _&&_}
@@ -10,20 +10,13 @@ use lib.ListN.{getD}
 use borrow.Author.Tests.{ltb-true, lt-ltb}
 use Rattle.model.specs.Members.{hasMember}
 use Rattle.model.specs.Layout.{isInstalled, members}
-use Rattle.model.specs.Replicas.{isPending, isImmutable}
-use Rattle.model.specs.Configuration.{configuration, replicaOf}
+use Rattle.model.specs.Replicas.{isImmutable}
 use Rattle.model.specs.Inherit.{isSource, source}
-use Rattle.model.proofs.WellFormedMembers.{member-proper}
 use Rattle.lookup.specs.Ready.{Ready}
 use Rattle.lookup.specs.declared.Seat.{Seat}
 use Rattle.lookup.specs.Seats.{seatOf}
 use Rattle.model.proofs.Fields.{immutable-word}
-use Rattle.lookup.proofs.Fields.{formed}
 use Rattle.lookup.proofs.Seats.{At}
-
--- a pending replica is of no first configuration
-pub pending-later : {w : List ℕ} {z j h p : ℕ} → Ready w z j → At w z j h p → isPending (replicaOf w (configuration w z j) h) ≡ true → 1 ≤ j
-pending-later {w} {z} {j} {h} r a e = member-proper (formed (r .state)) (r .shard) (r .configuration) h (a .member) .waits e .1
 
 -- the configuration before is one too
 pub ready-before : {w : List ℕ} {z j : ℕ} → Ready w z j → Ready w z (j - 1)
@@ -34,7 +27,8 @@ installed-before : (w : List ℕ) (z j : ℕ) → isInstalled w z j ≡ true →
 unfolding isInstalled
 installed-before w z j e = lt-ltb (j - 1) _ (omega (arith, ltb-true j _ e))
 
-seat-answer : (w : List ℕ) (z j h : ℕ) → isInstalled w z j ≡ true → hasMember (members w z j) h ≡ true → seatOf w z j h .answer ≡ 0
+-- the seat of a member
+pub seat-answer : (w : List ℕ) (z j h : ℕ) → isInstalled w z j ≡ true → hasMember (members w z j) h ≡ true → seatOf w z j h .answer ≡ 0
 unfolding seatOf
 seat-answer w z j h i m = rw (i, m)
 

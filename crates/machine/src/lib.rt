@@ -54,6 +54,7 @@ fn act(state: &mut [u64], shards: usize, s: Step) -> u64
         Kind::Wedge => replica_steps::wedge::wedge(state, shards, z, j, host, s.d),
         Kind::Install => install_steps::install(state, shards, z, j, host, s.d),
         Kind::Inherit => copy_steps::inherit::inherit(state, shards, z, j, host, s.d),
+        Kind::CatchUp => copy_steps::catch_up::catch_up(state, shards, z, j, host, s.d),
         Kind::Kept => 3,
         Kind::Unknown => 4,
     }

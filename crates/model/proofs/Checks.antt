@@ -8,7 +8,7 @@ use lib.Dec.{leb, ltb, eqb}
 use lib.ListN.{length}
 use borrow.Author.Tests.{leb-true, ltb-true, eq-eqb, eqb-false}
 use Rattle.model.specs.declared.kind.Kind.{Kind}
-use Rattle.model.specs.declared.kind.Kind.the-variants.{Add, Adopt, Learn, Wedge, Install, Inherit, Kept, Unknown}
+use Rattle.model.specs.declared.kind.Kind.the-variants.{Add, Adopt, Learn, Wedge, Install, Inherit, CatchUp, Kept, Unknown}
 use Rattle.model.specs.declared.step.Step.{Step}
 use Rattle.model.specs.Checks.{Check, firstOf}
 use Rattle.model.specs.Kinds.{kindOf}
@@ -20,6 +20,7 @@ use Rattle.model.specs.Learn.{learnChecks}
 use Rattle.model.specs.Wedge.{wedgeChecks}
 use Rattle.model.specs.Install.{installChecks}
 use Rattle.model.specs.Inherit.{inheritChecks}
+use Rattle.model.specs.CatchUp.{catchUpChecks}
 use Rattle.model.specs.Steps.{shardOf, configurationOf, areNumbers, inRange, kindChecks, stepChecks, rejection}
 use Rattle.model.proofs.Tests.{both, all-pass}
 
@@ -98,13 +99,14 @@ told n (c ∷ cs) e = go (eqb (c .number) n) refl (c .passes) refl e (told n cs)
 -- no check of a kind has the number 0 or 9
 kind-numbers : (k : Kind) (w : List ℕ) (z j c d : ℕ)
     → (areNumbered (kindChecks k w z j c d) ≡ true) × (passAt 9 (kindChecks k w z j c d) ≡ true)
-unfolding kindChecks addChecks adoptChecks learnChecks wedgeChecks installChecks inheritChecks
+unfolding kindChecks addChecks adoptChecks learnChecks wedgeChecks installChecks inheritChecks catchUpChecks
 kind-numbers Add w z j c d = (refl, refl)
 kind-numbers Adopt w z j c d = (refl, refl)
 kind-numbers Learn w z j c d = (refl, refl)
 kind-numbers Wedge w z j c d = (refl, refl)
 kind-numbers Install w z j c d = (refl, refl)
 kind-numbers Inherit w z j c d = (refl, refl)
+kind-numbers CatchUp w z j c d = (refl, refl)
 kind-numbers Kept w z j c d = (refl, refl)
 kind-numbers Unknown w z j c d = (refl, refl)
 

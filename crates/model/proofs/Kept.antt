@@ -10,7 +10,7 @@ use Rattle.model.specs.StableHistory.{stableHistory}
 use Rattle.model.specs.Prefixes.{Begins}
 use Rattle.model.specs.OneList.{shards}
 use Rattle.model.specs.Members.{hasMember, replicaNumber}
-use Rattle.model.specs.Replicas.{Replica, inherited}
+use Rattle.model.specs.Replicas.{Replica, inherited, caughtUp}
 use Rattle.model.proofs.WellFormedInstall
 use Rattle.model.proofs.Histories.{Wider, offered-wider}
 use Rattle.model.proofs.Views.{View, Inv}
@@ -26,11 +26,14 @@ pub record Source (w : List ℕ) (z a g : ℕ) : Type 0 where
   pub member : hasMember (members w z a) g ≡ true
   pub isImmutable : view w z a (replicaNumber (members w z a) g) .mode ≡ 3
 
--- where the origin of r is from, which takes the place of replica k of configuration j: it was there, or r inherits from the host that it names
+-- where the origin of r is from, which takes the place of replica k of configuration j: it was there, or r inherits from the host that it names, or
+-- catches up with a peer that names it
 pub data From (w : List ℕ) (z j k : ℕ) (r : Replica) (g : ℕ) : Type 0 where
   stood : view w z j k .origin ≡ suc g → From w z j k r g
   inherits : (a : ℕ) → j ≡ suc a → Source w z a g → view w z j k .mode ≡ 1
       → r ≡ inherited g (view w z a (replicaNumber (members w z a) g)) → From w z j k r g
+  catchesUp : (p : ℕ) → j < installed w z → hasMember (members w z j) p ≡ true → view w z j k .mode ≡ 1
+      → r ≡ caughtUp (view w z j (replicaNumber (members w z j) p)) → From w z j k r g
 
 pub record Kept (w : List ℕ) (offers : ℕ → List ℕ) (w′ : List ℕ) (offers′ : ℕ → List ℕ) : Type 0 where
   pub forward : Forward w w′

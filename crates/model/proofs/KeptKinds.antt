@@ -1,4 +1,4 @@
--- Add, adopt, learn, wedge and inherit on a safe state: each is a move of its shard's view.
+-- Add, adopt, learn, wedge, inherit and catch up on a safe state: each is a move of its shard's view.
 -- Assumes nothing.
 use Prim.Native.Nat.{ℕ, suc, _-_, _≤_, _<_}
 use native.Mathlib.Omega.{arith}
@@ -11,14 +11,15 @@ use lib.Arith.{lt-of-le-ne}
 use lib.ListN.{length, take, length-append}
 use Rattle.model.specs.Tests.{contains}
 use Rattle.model.specs.Members.{size, hasMember, replicaNumber}
-use Rattle.model.specs.Replicas.{Replica, unused, isActive, isPending, isImmutable, added, adopted, learned, wedged, inherited}
+use Rattle.model.specs.Replicas.{Replica, unused, isActive, isPending, isImmutable, added, adopted, learned, wedged, inherited, caughtUp}
 use Rattle.model.specs.Layout.{place, part, installed, isInstalled, members, orderer, putReplica, replicaAt}
-use Rattle.model.specs.Configuration.{configuration, replicaPlace, replicaOf}
+use Rattle.model.specs.Configuration.{configuration, replicaPlace, replicaOf, replicaIn}
 use Rattle.model.specs.Add.{ordererPlace, ordererReplica, noRival, addChecks, addEffect}
 use Rattle.model.specs.Adopt.{adoptChecks, adoptEffect}
 use Rattle.model.specs.Learn.{alike, allAlike, learnChecks, learnEffect}
 use Rattle.model.specs.Wedge.{wedgeChecks, wedgeEffect}
 use Rattle.model.specs.Inherit.{source, isSource, inheritChecks, inheritEffect}
+use Rattle.model.specs.CatchUp.{isPeer, catchUpChecks, catchUpEffect}
 use Rattle.model.specs.WellFormed.{isPart}
 use Rattle.model.specs.Prefixes.{Begins}
 use Rattle.model.specs.OneList.{shards}
@@ -29,7 +30,7 @@ use Rattle.model.proofs.Parts.{short}
 use Rattle.model.proofs.Places.{replica-place}
 use Rattle.model.proofs.Histories.{Wider, wider-refl}
 use Rattle.model.proofs.Moves.{Move}
-use Rattle.model.proofs.KindMoves.{add-move, adopt-move, learn-move, wedge-move, inherit-move}
+use Rattle.model.proofs.KindMoves.{add-move, adopt-move, learn-move, wedge-move, inherit-move, catch-up-move}
 use Rattle.model.proofs.StateViews.{view, view-in, InView, inside, outside, in-view}
 use Rattle.model.proofs.WellFormedParts.{part-vacant}
 use Rattle.model.proofs.WellFormedMembers.{orderer-is-member, member-proper}
@@ -37,7 +38,7 @@ use Rattle.model.proofs.SeatedReplica.{number-small, member-view}
 use Rattle.model.proofs.Safe.{Safe}
 use Rattle.model.proofs.ProperReplicas.{active-mode, pending-mode}
 use Rattle.model.proofs.Alike.{every-alike, alike-long, alike-begins}
-use Rattle.model.proofs.Kept.{From, stood, inherits, Kept, formed}
+use Rattle.model.proofs.Kept.{From, stood, inherits, catchesUp, Kept, formed}
 use Rattle.model.proofs.KeptPut.{kept-put}
 
 -- a mode by its test
@@ -225,3 +226,18 @@ module _ {w : List ℕ} {offers : ℕ → List ℕ} (x : Safe w offers) {z j : �
       })
       (pending-mode _ (rw (shown h member) at waits))
       refl)))
+
+  pub kept-catch-up : (h g : ℕ) → AllPass (catchUpChecks w z j h g) → Kept w offers (catchUpEffect w z j h g) offers
+  unfolding catchUpChecks catchUpEffect isPeer replicaIn isInstalled caughtUp number
+  kept-catch-up h g p =
+      let installs : isInstalled w z j ≡ true = search in
+      let member : hasMember (members w z j) h ≡ true = search in
+      let waits : isPending (replicaOf w (configuration w z j) h) ≡ true = search in
+      let there : hasMember (members w z j) g ≡ true = search (and-left, and-right) in
+      let runs : not (isPending (replicaOf w (configuration w z j) g)) ≡ true = search (and-left, and-right) in
+      let pending : view w z j (number h) .mode ≡ 1 = pending-mode _ (rw (shown h member) at waits) in
+      rw (shown g there)
+      (at-member h member (caughtUp (view w z j (number g))) (view-short j (number g) hj (number-small (formed x) hz hj g there))
+      (λ a. wider-refl)
+      (catch-up-move (x .inv z hz) j (number h) (number g) pending (rw (shown g there) at (past-pending g there (not-true _ runs))))
+      (λ q e. catchesUp g (ltb-true j (installed w z) installs) there pending refl))

@@ -1,4 +1,4 @@
--- Add, adopt, learn, wedge and inherit as moves of a view: the facts of each new replica.
+-- Add, adopt, learn, wedge, inherit and catch up as moves of a view: the facts of each new replica.
 -- Assumes nothing.
 use Prim.Native.Nat.{ℕ, zero, suc, _+_, _-_, _≤_, _<_}
 use native.Mathlib.Nat.{le-refl, le-of-lt, add-zero, add-suc, suc-inj}
@@ -13,7 +13,7 @@ use lib.ListN.{length, take, length-append}
 use lib.Seq.{take-append-le, length-take-le, take-nil}
 use Rattle.model.specs.Tests.{contains}
 use Rattle.model.specs.Add.{noRival}
-use Rattle.model.specs.Replicas.{Replica, stablePrefix, added, adopted, learned, wedged, inherited}
+use Rattle.model.specs.Replicas.{Replica, stablePrefix, added, adopted, learned, wedged, inherited, caughtUp}
 use Rattle.model.specs.Prefixes.{Begins}
 use Rattle.model.proofs.Prefixes.{begins-le, begins-refl, begins-trans, begins-append, begins-take-take, begins-same, begins-nil}
 use Rattle.model.proofs.Histories.{Wider, once-append, offered-append, offered-wider}
@@ -163,6 +163,24 @@ module _ {v : View} {offer : List ℕ} (i : Inv v offer) where
 
         stem-at-pred : {c : ℕ} → suc b ≡ suc c → Stem v b (stablePrefix (v b q)) → Stem v c (stablePrefix (v b q))
         stem-at-pred e t = rw (sym (suc-inj e)) t
+
+  -- catch up: a copy of a replica of the same configuration, of which all this holds already
+  pub catch-up-move : (j k o : ℕ) → v j k .mode ≡ 1 → 2 ≤ v j o .mode → Move v offer j k (caughtUp (v j o))
+  unfolding caughtUp stablePrefix
+  catch-up-move j k o a l =
+      record {
+        live = lit≤ tt;
+        notImmutable = pending-not a;
+        fits = i .fits j o;
+        grows = rw (blank-prefix j k (omega (arith, a))) begins-nil;
+        into = λ x m h. i .reach x m j o h l;
+        out = λ x m h g. i .reach j o x m h g;
+        rooted = own-root j o l;
+        stemmed = λ b p q h g. own-stem j o l b p q h;
+        once = i .once j o;
+        single = i .single j o;
+        offered = i .offered j o;
+      }
 
   -- learn: every history of the configuration begins with the first n entries of this one, and nobody in it is pending
   module _ (j k n : ℕ) (a : v j k .mode ≡ 2) (longer : v j k .stable < n) (within : n ≤ length (v j k .history))

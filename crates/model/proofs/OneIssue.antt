@@ -7,7 +7,7 @@ use mathlib.Core.Bool.{true}
 use mathlib.Core.List.{List, []}
 use lib.ListN.{length}
 use Rattle.model.specs.declared.kind.Kind.{Kind}
-use Rattle.model.specs.declared.kind.Kind.the-variants.{Add, Adopt, Learn, Wedge, Install, Inherit, Kept, Unknown}
+use Rattle.model.specs.declared.kind.Kind.the-variants.{Add, Adopt, Learn, Wedge, Install, Inherit, CatchUp, Kept, Unknown}
 use Rattle.model.specs.declared.step.Step.{Step}
 use Rattle.model.specs.Kinds.{kindOf}
 use Rattle.model.specs.Members.{hasMember, replicaNumber}
@@ -19,6 +19,7 @@ use Rattle.model.specs.Learn.{learnChecks}
 use Rattle.model.specs.Wedge.{wedgeChecks}
 use Rattle.model.specs.Install.{issuer, issuedAt, isStableIssue, noneBefore, installChecks}
 use Rattle.model.specs.Inherit.{inheritChecks}
+use Rattle.model.specs.CatchUp.{catchUpChecks}
 use Rattle.model.specs.Steps.{shardOf, configurationOf, inRange, kindChecks, stepChecks, rejection}
 use Rattle.model.specs.Setup.{afterSetup}
 use Rattle.model.specs.Runs.{played, stateAt, answerAt}
@@ -69,13 +70,14 @@ module _ {w : List ℕ} {offers : ℕ → List ℕ} (x : Safe w offers) where
       first-there (range .shard) (range .configuration) (s .c) (s .d) (search) (search)
 
   not-told : (s : Step) (k : Kind) → kindOf (s .kind) ≡ k → rejection w s ≡ 22 → ⊥
-  unfolding rejection stepChecks kindChecks addChecks adoptChecks learnChecks wedgeChecks installChecks inheritChecks
+  unfolding rejection stepChecks kindChecks addChecks adoptChecks learnChecks wedgeChecks installChecks inheritChecks catchUpChecks
   not-told s Add e r = never 22 (stepChecks w s) (omega arith) (rw e) r
   not-told s Adopt e r = never 22 (stepChecks w s) (omega arith) (rw e) r
   not-told s Learn e r = never 22 (stepChecks w s) (omega arith) (rw e) r
   not-told s Wedge e r = never 22 (stepChecks w s) (omega arith) (rw e) r
   not-told s Install e r = never 22 (stepChecks w s) (omega arith) (rw (e, install-passes s e r)) r
   not-told s Inherit e r = never 22 (stepChecks w s) (omega arith) (rw e) r
+  not-told s CatchUp e r = never 22 (stepChecks w s) (omega arith) (rw e) r
   not-told s Kept e r = never 22 (stepChecks w s) (omega arith) (rw e) r
   not-told s Unknown e r = never 22 (stepChecks w s) (omega arith) (rw e) r
 

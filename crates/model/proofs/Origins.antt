@@ -7,7 +7,7 @@ use mathlib.Core.List.{List}
 use lib.Dec.{leb, eqb}
 use borrow.Author.Tests.{leb-true, le-leb, eqb-true, eqb-false, ne-eqb, not-true}
 use Rattle.model.specs.Members.{hasMember, replicaNumber}
-use Rattle.model.specs.Replicas.{Replica, isPending, isActive, isImmutable, pending, added, adopted, learned, wedged, inherited}
+use Rattle.model.specs.Replicas.{Replica, isPending, isActive, isImmutable, pending, added, adopted, learned, wedged, inherited, caughtUp}
 use Rattle.model.specs.Layout.{place, members, replicaAt}
 use Rattle.model.specs.Configuration.{replicaOf}
 use Rattle.model.specs.Inherit.{source}
@@ -114,6 +114,12 @@ module _ (w : List ℕ) (z j : ℕ) (r : Replica) (a : isActive r ≡ true) (o :
 pub pending-origin : (w : List ℕ) (z j : ℕ) → isOriginOf w z j pending ≡ true
 unfolding pending isPending isOriginOf
 pending-origin w z j = rw (or-true (eqb j 0))
+
+-- catching up names what the peer names, which is not pending
+pub caught-up-origin : (w : List ℕ) (z j : ℕ) (r : Replica) → isPending r ≡ false → isOriginOf w z j r ≡ true
+    → (isPending (caughtUp r) ≡ false) × (isOriginOf w z j (caughtUp r) ≡ true)
+unfolding caughtUp isPending isOriginOf
+caught-up-origin w z j r a o = (refl, rw a at o)
 
 -- inherit names an immutable member of the configuration before
 pub inherited-origin : (w : List ℕ) (z j g : ℕ) → 1 ≤ j → g < 16 → hasMember (members w z (j - 1)) g ≡ true → isImmutable (source w z j g) ≡ true

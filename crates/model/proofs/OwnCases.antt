@@ -16,10 +16,10 @@ use Rattle.model.specs.Entries.{isTake, issue, isIssue, issueShard, issu
 use Rattle.model.specs.Entries.{isIssueFor, names, rivals}
 use Rattle.model.specs.Members.{size, isHost, hasMember, replicaNumber, isMemberSet, isConfiguration}
 use Rattle.model.specs.Replicas.{Replica, readReplica, replicaWords, unused, fresh, isActive, isPending, isImmutable}
-use Rattle.model.specs.Replicas.{added, adopted, learned, wedged, pending, inherited}
+use Rattle.model.specs.Replicas.{added, adopted, learned, wedged, pending, inherited, caughtUp}
 use Rattle.model.specs.Layout.{shardsOf, isStateLength, headPlace, place, headWord, sequencer, installed, members, orderer, isInstalled}
 use Rattle.model.specs.Layout.{part, replicaAt, putReplica, putHead}
-use Rattle.model.specs.Configuration.{configuration, replicaPlace, replicaOf}
+use Rattle.model.specs.Configuration.{configuration, replicaPlace, replicaOf, replicaIn}
 use Rattle.model.specs.WellFormed.{wellFormed, isReplica}
 use Rattle.model.specs.Setup.{planSequencer, planMembers, planOrderer, initialHead, initialReplica, initialShard, initialState, setupRejection}
 use Rattle.model.specs.Transcript.{programPlan, programStart}
@@ -29,6 +29,7 @@ use Rattle.model.specs.Learn.{alike, allAlike, learnChecks, learnEffect}
 use Rattle.model.specs.Wedge.{wedgeChecks, wedgeEffect}
 use Rattle.model.specs.Install.{issuer, issuedAt, isStableIssue, noneBefore, installChecks, putPending, installNext, installEffect}
 use Rattle.model.specs.Inherit.{source, isSource, inheritChecks, inheritEffect}
+use Rattle.model.specs.CatchUp.{isPeer, catchUpChecks, catchUpEffect}
 use Rattle.model.specs.Steps.{shardOf, configurationOf, areNumbers, inRange, kindChecks, kindEffect, stepChecks, rejection, effect}
 use Rattle.model.specs.Numbers.{withLower, readGroups, readNumber, withFirst, afterFirst, readNumbers, groupsOf, numberBytes, numbersBytes}
 use Rattle.model.specs.Log.{stepOf, afterNumbers, afterKind, readStep, withStep, stopped, isEmpty, logAfter, readLog}
@@ -36,8 +37,8 @@ use Rattle.model.specs.Writer.{isWritable, areWritable, stepBytes, write
 use Rattle.model.specs.Results.{readingNumber, readingStep, readingNext, readRejection, stepRead, bytesRead, nextRead, countBeside}
 use Rattle.model.specs.Results.{stopNumber, stopCode, replayNumber, replayCode, replayBytes}
 use Rattle.model.specs.Replay.{afterAll, replayRejection, replayed, rejectedIn}
-use Rattle.model.specs.Marked.{add, adopt, learn, wedge, install, inherit, takesUpTo, nextIssue}
-use Rattle.model.specs.OwnCases.{tried, changed, reported, tooShort, illFormed, borrowed, oneTake, replaced, goneOn, twoSources}
+use Rattle.model.specs.Marked.{add, adopt, learn, wedge, install, inherit, catchUp, takesUpTo, nextIssue}
+use Rattle.model.specs.OwnCases.{tried, changed, reported, tooShort, illFormed, borrowed, oneTake, replaced, goneOn, twoSources, caughtUpAfter}
 use Rattle.model.specs.OwnCases.{rivalIssue, laterIssue, otherIssue, unmarked, twoIssues, heads}
 use Rattle.model.specs.OwnCases.{Effects, StepOrder, KindOrders, ReaderOrder, WriterOrder, ReplayOrder, OwnCases}
 use Rattle.model.proofs.WellFormed.{WellFormed, well-formed}
@@ -148,9 +149,9 @@ on-two-issues s e = quick-rejection two-issues-formed s ∙ e
 
 -- what steps leave, and the orders of the kinds: rows that compute by the same definitions
 by-kinds : Effects × KindOrders
-unfolding oneTake replaced goneOn twoSources heads takesUpTo nextIssue rivalIssue laterIssue otherIssue unmarked twoIssues borrowed changed issue
+unfolding oneTake replaced goneOn twoSources caughtUpAfter heads takesUpTo nextIssue rivalIssue laterIssue otherIssue unmarked twoIssues borrowed changed issue
     programStart initialState programPlan planSequencer planMembers planOrderer concatBelow initialShard initialHead initialReplica
-    replicaWords readReplica fresh unused pending isActive isPending isImmutable added adopted learned wedged inherited
+    replicaWords readReplica fresh unused pending isActive isPending isImmutable added adopted learned wedged inherited caughtUp
     quickAnswers quickAfterAll quickRejection quickAfter firstOf kindOf isKept isUnknown shardOf configurationOf inRange areNumbers kindChecks effect kindEffect
     isEntry isTake isProperIssue isIssue isIssueFor issueIndex issueShard issueOrderer issueMembers names rivals
     isConfiguration isMemberSet isHost hasMember ones contains allBelow allOf
@@ -159,6 +160,7 @@ unfolding oneTake replaced goneOn twoSources heads takesUpTo nextIssue rivalIssu
     ordererPlace ordererReplica mayIssue noRival addChecks addEffect adoptChecks adoptEffect
     alike allAlike learnChecks learnEffect wedgeChecks wedgeEffect
     issuer issuedAt isStableIssue noneBefore installChecks installEffect installNext putPending source isSource inheritChecks inheritEffect
+    replicaIn isPeer catchUpChecks catchUpEffect
 by-kinds = (
   record {
     adds = left-after _ refl;
@@ -168,6 +170,7 @@ by-kinds = (
     installs = left-after _ refl;
     inherits = left-after _ refl;
     origins = left-after _ refl;
+    catchesUp = left-after _ refl;
   },
   record {
     adds = (
@@ -192,6 +195,7 @@ by-kinds = (
       on-two-issues _ refl,
     );
     inherits = (from-start _ refl, from-start _ refl, from-start _ refl);
+    catchesUp = (from-start _ refl, from-start _ refl, from-start _ refl, from-start _ refl, from-start _ refl);
   },
 )
 
@@ -209,6 +213,7 @@ step-order =
       wedges = on-ill (wedge 0 2 1) refl;
       installs = on-ill (install 0 2 1 0) refl;
       inherits = on-ill (inherit 0 2 1 1) refl;
+      catchesUp = on-ill (catchUp 0 2 1 1) refl;
     }
 
 reader-order : ReaderOrder
@@ -221,6 +226,7 @@ reader-order =
       unknown = (refl, refl);
       bytes = (refl, refl, refl);
       step = (refl, refl, refl);
+      catchesUp = (refl, refl, refl);
       end = (refl, refl, refl);
       position = (refl, refl);
     }
@@ -228,7 +234,14 @@ reader-order =
 writer-order : WriterOrder
 unfolding writeRejection countBeside stepBytes firstOf kindOf isKept isUnknown usedNumbers stepOf areWritable isWritable numberBytes numbersBytes groupsOf
 writer-order =
-    record { kept = (refl, refl); unknown = (refl, refl); numbers = (refl, refl); room = (refl, refl); step = (refl, refl) }
+    record {
+      kept = (refl, refl);
+      unknown = (refl, refl);
+      numbers = (refl, refl);
+      room = (refl, refl);
+      step = (refl, refl);
+      catchesUp = (refl, refl);
+    }
 
 replay-order : ReplayOrder
 unfolding stopNumber stopCode readLog logAfter withStep stopped isEmpty

@@ -8,7 +8,7 @@ use lib.ListN.{length, length-append}
 use borrow.Author.Tests.{eqb-true}
 use Rattle.model.specs.Tests.{allOf}
 use Rattle.model.specs.Entries.{isEntry}
-use Rattle.model.specs.Replicas.{Replica, isPending, isActive, fresh, pending, added, adopted, learned, wedged, inherited}
+use Rattle.model.specs.Replicas.{Replica, isPending, isActive, fresh, pending, added, adopted, learned, wedged, inherited, caughtUp}
 use Rattle.model.proofs.Tests.{both}
 use Rattle.model.proofs.WellFormedParts.{Proper, all-append}
 
@@ -78,3 +78,7 @@ module _ {Z j : ℕ} {r : Replica} (p : Proper Z j r) where
   pub inherited-proper : (i g : ℕ) → Proper Z i (inherited g r)
   unfolding inherited
   inherited-proper i g = running Z i (inherited g r) (omega arith) (omega arith) (p .few) (p .stable-most) (p .entries)
+
+  pub caught-up-proper : Proper Z j (caughtUp r)
+  unfolding caughtUp
+  caught-up-proper = running Z j (caughtUp r) (omega arith) (omega arith) (p .few) (p .stable-most) (p .entries)

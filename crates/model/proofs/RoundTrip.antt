@@ -15,7 +15,7 @@ use Rattle.model.specs.declared.Number.the-variants.{Value, Rejected as 
 use Rattle.model.specs.declared.Reading.{Reading}
 use Rattle.model.specs.declared.Reading.the-variants.{Step as Read, End, Rejected}
 use Rattle.model.specs.declared.kind.Kind.{Kind}
-use Rattle.model.specs.declared.kind.Kind.the-variants.{Add, Adopt, Learn, Wedge, Install, Inherit, Kept, Unknown}
+use Rattle.model.specs.declared.kind.Kind.the-variants.{Add, Adopt, Learn, Wedge, Install, Inherit, CatchUp, Kept, Unknown}
 use Rattle.model.specs.declared.step.Step.{Step}
 use Rattle.model.specs.Kinds.{kindOf, isKept, isUnknown, usedNumbers}
 use Rattle.model.specs.Log.{stepOf, afterNumbers, afterKind, readStep}
@@ -38,11 +38,12 @@ used-cases Learn e f = inr refl
 used-cases Wedge e f = inl refl
 used-cases Install e f = inr refl
 used-cases Inherit e f = inr refl
+used-cases CatchUp e f = inr refl
 used-cases Kept e f = absurd (true≢false e)
 used-cases Unknown e f = absurd (true≢false f)
 
--- 7 and above name no step
-late-kind : (n : ℕ) → 7 ≤ n → kindOf n ≡ cond (leb n 31) Kept Unknown
+-- 8 and above name no step
+pub late-kind : (n : ℕ) → 8 ≤ n → kindOf n ≡ cond (leb n 31) Kept Unknown
 unfolding kindOf
 late-kind n h =
     simp (
@@ -52,15 +53,16 @@ late-kind n h =
       ne-eqb n 4 (λ e. omega arith),
       ne-eqb n 5 (λ e. omega arith),
       ne-eqb n 6 (λ e. omega arith),
-      le-leb 7 n h,
+      ne-eqb n 7 (λ e. omega arith),
+      le-leb 8 n h,
     )
 
 -- a kind that the writer accepts has a number of one byte
-pub kind-below : (n : ℕ) → isKept (kindOf n) ≡ false → isUnknown (kindOf n) ≡ false → n < 7
+pub kind-below : (n : ℕ) → isKept (kindOf n) ≡ false → isUnknown (kindOf n) ≡ false → n < 8
 unfolding isKept isUnknown
-kind-below n e f = elim (decLt n 7) [ yes l ↦ l | no l ↦ late (leb n 31) (late-kind n (omega arith)) ]
+kind-below n e f = elim (decLt n 8) [ yes l ↦ l | no l ↦ late (leb n 31) (late-kind n (omega arith)) ]
   where
-    late : (t : Bool) → kindOf n ≡ cond t Kept Unknown → n < 7
+    late : (t : Bool) → kindOf n ≡ cond t Kept Unknown → n < 8
     late true g = absurd (true≢false (rw g at e))
     late false g = absurd (true≢false (rw g at f))
 
@@ -120,7 +122,7 @@ step-read s rest w =
     let cases : (u ≡ 3) ⊎ (u ≡ 4) = used-cases (kindOf k) (w .notKept) (w .known) in
     let tests = writer-tests s (w .small) in
     let small : allOf isWritable ns ≡ true = all-take isWritable u (numbersOf s) (tests .0) in
-    let below : k < 7 = kind-below k (w .notKept) (w .known) in
+    let below : k < 8 = kind-below k (w .notKept) (w .known) in
     let more : List ℕ = numbersBytes ns ++ rest in
     let others : readNumbers u more ≡ values ns (length (numbersBytes ns)) = rw (used-length s u cases) at (numbers-read ns rest small) in
     rw (

@@ -6,7 +6,7 @@ use mathlib.Core.Bool.{Bool, true, false, cond, _&&_, true≢false}
 use lib.Dec.{leb, ltb, eqb, leb·suc-suc}
 use borrow.Author.Tests.{lt-leb, ne-eqb, leb-true, ltb-true}
 use Rattle.model.specs.declared.kind.Kind.{Kind}
-use Rattle.model.specs.declared.kind.Kind.the-variants.{Add, Adopt, Learn, Wedge, Install, Inherit, Kept, Unknown}
+use Rattle.model.specs.declared.kind.Kind.the-variants.{Add, Adopt, Learn, Wedge, Install, Inherit, CatchUp, Kept, Unknown}
 use Rattle.model.specs.declared.kind.Rules.{Rules}
 use Rattle.model.specs.Kinds.{kindOf, isKept, isUnknown, namesHost, usedNumbers}
 use Rattle.model.specs.Rules.{kindRejection, Known, mostFourth, rulesOf, fourthNumbers}
@@ -54,6 +54,7 @@ numbers-by-rules Learn h Z c d = refl
 numbers-by-rules Wedge h Z c d = ap (λ (t : Bool). ltb c 16 && t) (none-most d)
 numbers-by-rules Install h Z c d = refl
 numbers-by-rules Inherit h Z c d = ap (λ (t : Bool). ltb c 16 && t) (leb·suc-suc d 15)
+numbers-by-rules CatchUp h Z c d = ap (λ (t : Bool). ltb c 16 && t) (leb·suc-suc d 15)
 numbers-by-rules Kept h Z c d = absurd (true≢false (h .notKept))
 numbers-by-rules Unknown h Z c d = absurd (true≢false (h .known))
 
@@ -87,6 +88,7 @@ used-cases Learn h = refl
 used-cases Wedge h = refl
 used-cases Install h = refl
 used-cases Inherit h = refl
+used-cases CatchUp h = refl
 used-cases Kept h = absurd (true≢false (h .notKept))
 used-cases Unknown h = absurd (true≢false (h .known))
 
@@ -95,7 +97,7 @@ pub used-fourth : (n : ℕ) → Known (kindOf n) → usedNumbers (kindOf n) ≡ 
 unfolding fourthNumbers
 used-fourth n h = used-cases (kindOf n) h
 
-bit : (n : ℕ) → Known (kindOf n) → n < 7 → 104 / 2 ^ n % 2 ≡ fourthNumbers n
+bit : (n : ℕ) → Known (kindOf n) → n < 8 → 232 / 2 ^ n % 2 ≡ fourthNumbers n
 unfolding fourthNumbers kindOf usedNumbers isUnknown
 bit zero h l = absurd (true≢false (h .known))
 bit (suc zero) h l = refl
@@ -104,11 +106,12 @@ bit (suc (suc (suc zero))) h l = refl
 bit (suc (suc (suc (suc zero)))) h l = refl
 bit (suc (suc (suc (suc (suc zero))))) h l = refl
 bit (suc (suc (suc (suc (suc (suc zero)))))) h l = refl
-bit (suc (suc (suc (suc (suc (suc (suc n))))))) h l = absurd (omega arith)
+bit (suc (suc (suc (suc (suc (suc (suc zero))))))) h l = refl
+bit (suc (suc (suc (suc (suc (suc (suc (suc n)))))))) h l = absurd (omega arith)
 
-pub known-below : (n : ℕ) → Known (kindOf n) → n < 7
+pub known-below : (n : ℕ) → Known (kindOf n) → n < 8
 known-below n h = kind-below n (h .notKept) (h .known)
 
--- the bits of 104 are the kinds with a fourth number
-pub fourth-bit : (n : ℕ) → Known (kindOf n) → 104 / 2 ^ n % 2 ≡ fourthNumbers n
+-- the bits of 232 are the kinds with a fourth number
+pub fourth-bit : (n : ℕ) → Known (kindOf n) → 232 / 2 ^ n % 2 ≡ fourthNumbers n
 fourth-bit n h = bit n h (known-below n h)

@@ -7,7 +7,7 @@ use mathlib.Core.List.{List, _∷_}
 use lib.Dec.{leb, eqb}
 use borrow.Author.Tests.{eq-eqb}
 use Rattle.model.specs.declared.kind.Kind.{Kind}
-use Rattle.model.specs.declared.kind.Kind.the-variants.{Add, Adopt, Learn, Wedge, Install, Inherit, Kept as KeptKind, Unknown}
+use Rattle.model.specs.declared.kind.Kind.the-variants.{Add, Adopt, Learn, Wedge, Install, Inherit, CatchUp, Kept as KeptKind, Unknown}
 use Rattle.model.specs.declared.step.Step.{Step}
 use Rattle.model.specs.Tests.{contains}
 use Rattle.model.specs.Kinds.{kindOf}
@@ -22,7 +22,7 @@ use Rattle.model.proofs.Forward.{Forward, forward-refl, forward-shards}
 use Rattle.model.proofs.Safe.{Safe, offersAfter}
 use Rattle.model.proofs.StateViews.{view}
 use Rattle.model.proofs.Kept.{From, stood, Kept}
-use Rattle.model.proofs.KeptKinds.{kept-add, kept-adopt, kept-learn, kept-wedge, kept-inherit}
+use Rattle.model.proofs.KeptKinds.{kept-add, kept-adopt, kept-learn, kept-wedge, kept-inherit, kept-catch-up}
 use Rattle.model.proofs.KeptInstall.{kept-install}
 
 -- the kind that offers
@@ -33,6 +33,7 @@ isAdd Learn = false
 isAdd Wedge = false
 isAdd Install = false
 isAdd Inherit = false
+isAdd CatchUp = false
 isAdd KeptKind = false
 isAdd Unknown = false
 
@@ -46,11 +47,13 @@ unfolding kindOf isAdd
 kind-is-add n = go (eqb n 1) refl
   where
     rest : isAdd (cond (eqb n 2) Adopt (cond (eqb n 3) Learn (cond (eqb n 4) Wedge (cond (eqb n 5) Install (cond (eqb n 6) Inherit
-        (cond (leb 7 n && leb n 31) KeptKind Unknown)))))) ≡ false
+        (cond (eqb n 7) CatchUp (cond (leb 8 n && leb n 31) KeptKind Unknown))))))) ≡ false
     rest =
         neither (eqb n 2) _ _ refl
         (neither (eqb n 3) _ _ refl
-        (neither (eqb n 4) _ _ refl (neither (eqb n 5) _ _ refl (neither (eqb n 6) _ _ refl (neither (leb 7 n && leb n 31) _ _ refl refl)))))
+        (neither (eqb n 4) _ _ refl
+        (neither (eqb n 5) _ _ refl
+        (neither (eqb n 6) _ _ refl (neither (eqb n 7) _ _ refl (neither (leb 8 n && leb n 31) _ _ refl refl))))))
 
     go : (t : Bool) → eqb n 1 ≡ t → eqb n 1 ≡ isAdd (kindOf n)
     go true e = rw e
@@ -98,6 +101,8 @@ kept-step {w} {offers} x s a Install e =
     rw e (kept-as (offers-same s offers (rw e)) (kept-install x (a .range .shard) (a .range .configuration) (s .c) (s .d) (rw e at (a .checks))))
 kept-step {w} {offers} x s a Inherit e =
     rw e (kept-as (offers-same s offers (rw e)) (kept-inherit x (a .range .shard) (a .range .configuration) (s .c) (s .d) (rw e at (a .checks))))
+kept-step {w} {offers} x s a CatchUp e =
+    rw e (kept-as (offers-same s offers (rw e)) (kept-catch-up x (a .range .shard) (a .range .configuration) (s .c) (s .d) (rw e at (a .checks))))
 kept-step {w} {offers} x s a KeptKind e =
     rw e (kept-as (offers-same s offers (rw e)) (kept-same x))
 kept-step {w} {offers} x s a Unknown e =

@@ -1,4 +1,4 @@
--- The proof of `specs/Sources.antt`: an origin was written by an inherit, whose source stays as it is.
+-- The proof of `specs/Sources.antt`: an origin was written by an inherit, whose source stays as it is, or copied from a peer.
 -- Assumes nothing.
 use Prim.Native.Nat.{ℕ, zero, suc, _-_, _≤_, _<_}
 use native.Mathlib.Nat.{le-refl, le-of-lt, lt-of-lt-of-le}
@@ -8,20 +8,20 @@ use mathlib.Core.Bool.{Bool, true, false}
 use mathlib.Core.List.{List, []}
 use borrow.Author.Tests.{ltb-true, eq-eqb}
 use Rattle.model.specs.Members.{hasMember, replicaNumber}
-use Rattle.model.specs.Replicas.{Replica, unused, isPending, isImmutable, inherited}
+use Rattle.model.specs.Replicas.{Replica, unused, isPending, isImmutable, inherited, caughtUp}
 use Rattle.model.specs.Layout.{installed, isInstalled, members}
 use Rattle.model.specs.Configuration.{replicaIn}
 use Rattle.model.specs.Inherit.{source}
 use Rattle.model.specs.Setup.{afterSetup}
 use Rattle.model.specs.Runs.{Moment, stateAt}
 use Rattle.model.specs.OneList.{shards, Seated}
-use Rattle.model.specs.Sources.{Began, SourcesClaim}
+use Rattle.model.specs.Sources.{Began, inherits as inheritsFrom, catchesUp as catchesUpWith, SourcesClaim}
 use Rattle.model.proofs.StateViews.{view, InView, inside, outside, in-view}
 use Rattle.model.proofs.SeatedReplica.{member-view}
 use Rattle.model.proofs.WellFormedMembers.{head-open, size-none}
 use Rattle.model.proofs.Forward.{Forward}
 use Rattle.model.proofs.Safe.{Safe}
-use Rattle.model.proofs.Kept.{Source, From, stood, inherits, formed}
+use Rattle.model.proofs.Kept.{Source, From, stood, inherits, catchesUp, formed}
 use Rattle.model.proofs.KeptKinds.{in-use}
 use Rattle.model.proofs.SafeStep.{safe-step}
 use Rattle.model.proofs.SafeSetup.{safe-setup, setup-origin}
@@ -47,15 +47,20 @@ module _ {u v : List ℕ} (f : Forward u v) {z a g : ℕ} (h : z < shards u) (s 
         isImmutable = ap (λ (r : Replica). r .mode) source-same ∙ s .isImmutable;
       }
 
--- how a replica of the view began
+-- how a replica of the view began from host g's in configuration a, the one before
+data BeganFrom (w : List ℕ) (ms : List Moment) (z j a g : ℕ) : ℕ → ℕ → Type 0 where
+  by-inherit : {k n : ℕ} (m : ℕ) → m < n → view (stateAt w ms m) z j k .mode ≡ 1 → Source (stateAt w ms n) z a g
+      → view (stateAt w ms (suc m)) z j k ≡ inherited g (shown (stateAt w ms n) z a g) → BeganFrom w ms z j a g k n
+  by-peer : {k n : ℕ} (m : ℕ) → m < n → view (stateAt w ms m) z j k .mode ≡ 1
+      → (p : ℕ) → j < installed (stateAt w ms m) z → hasMember (members (stateAt w ms m) z j) p ≡ true
+      → BeganFrom w ms z j a g (replicaNumber (members (stateAt w ms m) z j) p) m
+      → view (stateAt w ms (suc m)) z j k ≡ caughtUp (shown (stateAt w ms m) z j p) → BeganFrom w ms z j a g k n
+
+-- .. and which configuration that is
 record BeganIn (w : List ℕ) (ms : List Moment) (z j k g n : ℕ) : Type 0 where
-  moment : ℕ
-  earlier : moment < n
-  waited : view (stateAt w ms moment) z j k .mode ≡ 1
   before : ℕ
   next-to : j ≡ suc before
-  from : Source (stateAt w ms n) z before g
-  became : view (stateAt w ms (suc moment)) z j k ≡ inherited g (shown (stateAt w ms n) z before g)
+  how : BeganFrom w ms z j before g k n
 
 module _ {w : List ℕ} {ms : List Moment} (r : Run w ms) (s : Safe w (λ z. [])) (none : (z j k : ℕ) → z < shards w → view w z j k .origin ≡ 0) where
   at : ℕ → List ℕ
@@ -82,37 +87,47 @@ module _ {w : List ℕ} {ms : List Moment} (r : Run w ms) (s : Safe w (λ z. [])
       go (stepped t a b f) = rw b (safe-step (safe n) t a .origins z j k g (shard-at n h))
       go (rested b f) = rw b (λ e. stood e)
 
-  began-in : (n z j k g : ℕ) → z < shards w → view (at n) z j k .origin ≡ suc g → BeganIn w ms z j k g n
-  unfolding at shown stateAt
-  began-in zero z j k g h e = absurd (omega (arith, e, none z j k h))
-  began-in (suc n) z j k g h e = go (from-next n z j k g h e) (began-in n z j k g h)
-    where
-      on : Forward (at n) (at (suc n))
-      on = forward n (suc n) (omega arith)
+  on : (n : ℕ) → Forward (at n) (at (suc n))
+  on n = forward n (suc n) (omega arith)
 
-      go : From (at n) z j k (view (at (suc n)) z j k) g → (view (at n) z j k .origin ≡ suc g → BeganIn w ms z j k g n)
-          → BeganIn w ms z j k g (suc n)
+  -- what began by a moment has begun by the next
+  began-onward : {n z j a k g : ℕ} → z < shards w → BeganFrom w ms z j a g k n → BeganFrom w ms z j a g k (suc n)
+  unfolding at
+  began-onward {n} {z} {j} {a} {k} {g} h (by-inherit m l q f i) =
+      let later : m < suc n = omega (arith, l) in
+      by-inherit m later q (source-onward (on n) (shard-at n h) f)
+      (i ∙ sym (ap (inherited g) (source-same (on n) (shard-at n h) f)))
+  began-onward {n} h (by-peer m l q p t e b i) =
+      let later : m < suc n = omega (arith, l) in
+      by-peer m later q p t e b i
+
+  began-in : (n z j k g : ℕ) → z < shards w → view (at n) z j k .origin ≡ suc g → BeganIn w ms z j k g n
+  unfolding at shown stateAt caughtUp
+  began-in zero z j k g h e = absurd (omega (arith, e, none z j k h))
+  began-in (suc n) z j k g h e = go (from-next n z j k g h e) (began-in n z j)
+    where
+      go : From (at n) z j k (view (at (suc n)) z j k) g
+          → ((l f : ℕ) → z < shards w → view (at n) z j l .origin ≡ suc f → BeganIn w ms z j l f n) → BeganIn w ms z j k g (suc n)
       go (stood o) rest =
-          let b = rest o in
-          record {
-            moment = b .moment;
-            earlier = omega (arith, b .earlier);
-            waited = b .waited;
-            before = b .before;
-            next-to = b .next-to;
-            from = source-onward on (shard-at n h) (b .from);
-            became = b .became ∙ sym (ap (inherited g) (source-same on (shard-at n h) (b .from)));
-          }
+          let b = rest k g h o in
+          record { before = b .before; next-to = b .next-to; how = began-onward h (b .how) }
       go (inherits a q f m i) rest =
           record {
-            moment = n;
-            earlier = le-refl (suc n);
-            waited = m;
             before = a;
             next-to = q;
-            from = source-onward on (shard-at n h) f;
-            became = i ∙ sym (ap (inherited g) (source-same on (shard-at n h) f));
+            how =
+                by-inherit n (le-refl (suc n)) m (source-onward (on n) (shard-at n h) f)
+                (i ∙ sym (ap (inherited g) (source-same (on n) (shard-at n h) f)));
           }
+      go (catchesUp p t d m i) rest =
+          let b = rest (replicaNumber (members (at n) z j) p) g h (sym (ap (λ (x : Replica). x .origin) i) ∙ e) in
+          record { before = b .before; next-to = b .next-to; how = by-peer n (le-refl (suc n)) m p t d (b .how) i }
+
+  -- the source, as it is at the moment
+  source-at : {n z j a k g : ℕ} → z < shards w → BeganFrom w ms z j a g k n → Source (at n) z a g
+  unfolding at
+  source-at h (by-inherit m l q f i) = f
+  source-at {n} h (by-peer m l q p t e b i) = source-onward (forward m n (le-of-lt l)) (shard-at m h) (source-at h b)
 
   -- ---- from the view to hosts
 
@@ -140,48 +155,58 @@ module _ {w : List ℕ} {ms : List Moment} (r : Run w ms) (s : Safe w (λ z. [])
       let small : j < 8 = lt-of-lt-of-le i (formed (safe m) .head z (shard-at m h) .most) in
       rw same (member-view (formed (safe m)) (shard-at m h) small g (rw same at e))
 
-  -- the source of a replica that began in the view
-  module _ (z j h g n : ℕ) (d : Seated (at n) z j h) (o : replicaIn (at n) z j h .origin ≡ suc g) where
-    k : ℕ
-    k = replicaNumber (members (at n) z j) h
+  -- the source of a replica of configuration j, the one after a
+  source-view : (n z j a g : ℕ) → j ≡ suc a → z < shards w → Source (at n) z a g → source (at n) z j g ≡ shown (at n) z a g
+  unfolding at source shown replicaIn
+  source-view n z j a g e h f =
+      let back : j - 1 ≡ a = omega (arith, e) in
+      rw back (host-view n n z a g (le-refl n) h (f .there) (f .member))
 
+  -- the replica of a host that is pending at a moment m before n, and what it is then
+  module _ (n z j h : ℕ) (y : z < shards w) (d : hasMember (members (at n) z j) h ≡ true) (m : ℕ) (l : m < n)
+      (q : view (at m) z j (replicaNumber (members (at n) z j) h) .mode ≡ 1) where
+    there : j < installed (at m) z
+    there = in-use-installed m z j (replicaNumber (members (at n) z j) h) y (omega (arith, q))
+
+    waited : isPending (replicaIn (at m) z j h) ≡ true
+    unfolding isPending
+    waited = rw (host-view m n z j h (le-of-lt l) y there d) (eq-eqb _ 1 q)
+
+    became : replicaIn (at (suc m)) z j h ≡ view (at (suc m)) z j (replicaNumber (members (at n) z j) h)
+    became = host-view (suc m) n z j h l y (lt-of-lt-of-le there (on m .installs z (shard-at m y))) d
+
+  -- a host began as its replica in the view did
+  host-began : (n z j a h g : ℕ) → j ≡ suc a → z < shards w → hasMember (members (at n) z j) h ≡ true
+      → BeganFrom w ms z j a g (replicaNumber (members (at n) z j) h) n → Began w ms z j g h n
+  unfolding at shown
+  host-began n z j a h g e y d (by-inherit m l q f i) =
+      inheritsFrom m l (waited n z j h y d m l q) (rw (source-view n z j a g e y f) (became n z j h y d m l q ∙ i))
+  host-began n z j a h g e y d (by-peer m l q p t c b i) =
+      catchesUpWith m l (waited n z j h y d m l q) p (record { shard = shard-at m y; configured = t; member = c }) (host-began m z j a p g e y c b)
+      (rw (host-view m m z j p (le-refl m) y t c) (became n z j h y d m l q ∙ i))
+
+  module _ (z j h g n : ℕ) (d : Seated (at n) z j h) (o : replicaIn (at n) z j h .origin ≡ suc g) where
     below : z < shards w
     unfolding at
     below = rw (sym (shards-at r (λ z n. []) s n)) (d .shard)
 
-    began-at : BeganIn w ms z j k g n
-    unfolding k
-    began-at = began-in n z j k g below (rw (host-view n n z j h (le-refl n) below (d .configured) (d .member)) at o)
-
-    source-view : source (at n) z j g ≡ shown (at n) z (began-at .before) g
-    unfolding at source shown replicaIn
-    source-view =
-        let back : j - 1 ≡ began-at .before = omega (arith, began-at .next-to) in
-        rw back (host-view n n z (began-at .before) g (le-refl n) below (began-at .from .there) (began-at .from .member))
+    began-at : BeganIn w ms z j (replicaNumber (members (at n) z j) h) g n
+    began-at =
+        began-in n z j (replicaNumber (members (at n) z j) h) g below
+        (rw (host-view n n z j h (le-refl n) below (d .configured) (d .member)) at o)
 
     source-immutable : Seated (at n) z (j - 1) g × (isImmutable (source (at n) z j g) ≡ true)
     unfolding at isImmutable shown
     source-immutable =
+        let f = source-at below (began-at .how) in
         let back : j - 1 ≡ began-at .before = omega (arith, began-at .next-to) in (
-          rw back (record { shard = d .shard; configured = began-at .from .there; member = began-at .from .member }),
-          rw source-view (eq-eqb _ 3 (began-at .from .isImmutable)),
+          rw back (record { shard = d .shard; configured = f .there; member = f .member }),
+          rw (source-view n z j (began-at .before) g (began-at .next-to) below f) (eq-eqb _ 3 (f .isImmutable)),
         )
 
-    host-began : Began w ms z j h g n
-    unfolding at k isPending
-    host-began =
-        let b = began-at in
-        let there : j < installed (at (b .moment)) z = in-use-installed (b .moment) z j k below (omega (arith, b .waited)) in
-        let later : j < installed (at (suc (b .moment))) z =
-        lt-of-lt-of-le there (forward (b .moment) (suc (b .moment)) (omega arith) .installs z (shard-at (b .moment) below)) in
-        record {
-          moment = b .moment;
-          earlier = b .earlier;
-          waited = rw (host-view (b .moment) n z j h (le-of-lt (b .earlier)) below there (d .member)) (eq-eqb _ 1 (b .waited));
-          became =
-              rw source-view
-              (host-view (suc (b .moment)) n z j h (b .earlier) below later (d .member) ∙ b .became);
-        }
+    seated-began : Began w ms z j g h n
+    unfolding at
+    seated-began = host-began n z j (began-at .before) h g (began-at .next-to) below (d .member) (began-at .how)
 
 pub sources : SourcesClaim
 unfolding SourcesClaim at
@@ -190,5 +215,5 @@ sources w p e calls =
     let safe = safe-setup w p e in
     record {
       immutable = source-immutable run safe (setup-origin w p e);
-      began = host-began run safe (setup-origin w p e);
+      began = seated-began run safe (setup-origin w p e);
     }

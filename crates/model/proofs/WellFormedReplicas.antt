@@ -1,33 +1,34 @@
--- Add, adopt, learn, wedge and inherit keep a state well-formed.
+-- Add, adopt, learn, wedge, inherit and catch up keep a state well-formed.
 use Prim.Native.Nat.{ℕ, _-_, _≤_, _<_}
 use native.Mathlib.Omega.{arith}
 use mathlib.Core.Path.{_≡_}
-use mathlib.Core.Bool.{true, false}
+use mathlib.Core.Bool.{true, false, not}
 use mathlib.Core.List.{List}
 use lib.ListN.{length}
-use borrow.Author.Tests.{ltb-true}
+use borrow.Author.Tests.{ltb-true, not-true}
 use Rattle.model.specs.Members.{hasMember, replicaNumber}
 use Rattle.model.specs.Entries.{isEntry}
-use Rattle.model.specs.Replicas.{Replica, isPending, isActive, added, adopted, learned, wedged, inherited}
+use Rattle.model.specs.Replicas.{Replica, isPending, isActive, added, adopted, learned, wedged, inherited, caughtUp}
 use Rattle.model.specs.Layout.{place, members, orderer, isInstalled, replicaAt, putReplica}
-use Rattle.model.specs.Configuration.{configuration, replicaPlace, replicaOf}
+use Rattle.model.specs.Configuration.{configuration, replicaPlace, replicaOf, replicaIn}
 use Rattle.model.specs.Add.{ordererPlace, ordererReplica, addChecks, addEffect}
 use Rattle.model.specs.Adopt.{adoptChecks, adoptEffect}
 use Rattle.model.specs.Learn.{allAlike, learnChecks, learnEffect}
 use Rattle.model.specs.Wedge.{wedgeChecks, wedgeEffect}
 use Rattle.model.specs.Inherit.{source, isSource, inheritChecks, inheritEffect}
+use Rattle.model.specs.CatchUp.{isPeer, catchUpChecks, catchUpEffect}
 use Rattle.model.specs.Origins.{isOriginOf}
 use Rattle.model.proofs.Tests.{and-left, and-right}
 use Rattle.model.proofs.Alike.{every-alike, alike-long}
 use Rattle.model.proofs.Places.{replica-place}
 use Rattle.model.proofs.Members.{number-below}
 use Rattle.model.proofs.Checks.{AllPass}
-use Rattle.model.proofs.Origins.{added-origin, adopted-origin, learned-origin, wedged-origin, inherited-origin}
+use Rattle.model.proofs.Origins.{added-origin, adopted-origin, learned-origin, wedged-origin, inherited-origin, caught-up-origin}
 use Rattle.model.proofs.WellFormedParts.{Proper}
 use Rattle.model.proofs.WellFormed.{WellFormed}
 use Rattle.model.proofs.WellFormedMembers.{orderer-is-member, member-proper, member-origin}
 use Rattle.model.proofs.WellFormedPut.{put-keeps}
-use Rattle.model.proofs.ProperReplicas.{added-proper, adopted-proper, learned-proper, wedged-proper, inherited-proper}
+use Rattle.model.proofs.ProperReplicas.{added-proper, adopted-proper, learned-proper, wedged-proper, inherited-proper, caught-up-proper}
 
 module _ {Z : ℕ} {w : List ℕ} (f : WellFormed Z w) {z j : ℕ} (hz : z < Z) (hj : j < 8) where
   -- a member's replica is written anew
@@ -95,3 +96,12 @@ module _ {Z : ℕ} {w : List ℕ} (f : WellFormed Z w) {z j : ℕ} (hz : z < Z) 
       let later : 1 ≤ j = member-proper f hz hj h e .waits (search) .1 in
       put-member h e (inherited g (source w z j g)) (inherited-proper (member-proper f hz (omega arith) g s) j g)
       (inherited-origin w z j g later l s (search (and-left, and-right)))
+
+  pub catch-up-keeps : (h g : ℕ) → AllPass (catchUpChecks w z j h g) → WellFormed Z (catchUpEffect w z j h g)
+  unfolding catchUpChecks catchUpEffect isPeer replicaIn
+  catch-up-keeps h g p =
+      let e : hasMember (members w z j) h ≡ true = search in
+      let s : hasMember (members w z j) g ≡ true = search (and-left, and-right) in
+      let runs : not (isPending (replicaOf w (configuration w z j) g)) ≡ true = search (and-left, and-right) in
+      put-member h e (caughtUp (replicaOf w (configuration w z j) g)) (caught-up-proper (member-proper f hz hj g s))
+      (caught-up-origin w z j (replicaOf w (configuration w z j) g) (not-true _ runs) (member-origin f hz hj g s))

@@ -8,7 +8,7 @@ use lib.Dec.{eqb}
 use lib.ListN.{length}
 use borrow.Author.Tests.{ltb-true, eq-eqb, ne-eqb}
 use Rattle.model.specs.declared.kind.Kind.{Kind}
-use Rattle.model.specs.declared.kind.Kind.the-variants.{Add, Adopt, Learn, Wedge, Install, Inherit, Kept, Unknown}
+use Rattle.model.specs.declared.kind.Kind.the-variants.{Add, Adopt, Learn, Wedge, Install, Inherit, CatchUp, Kept, Unknown}
 use Rattle.model.specs.declared.step.Step.{Step}
 use Rattle.model.specs.Kinds.{kindOf}
 use Rattle.model.specs.Members.{isHost}
@@ -19,7 +19,7 @@ use Rattle.model.specs.Steps.{areNumbers, kindChecks, kindEffect, reject
 use Rattle.model.proofs.Tests.{both}
 use Rattle.model.proofs.Checks.{AllPass, Accepted, accepted}
 use Rattle.model.proofs.WellFormed.{WellFormed, size-of, well-formed, is-well-formed}
-use Rattle.model.proofs.WellFormedReplicas.{add-keeps, adopt-keeps, learn-keeps, wedge-keeps, inherit-keeps}
+use Rattle.model.proofs.WellFormedReplicas.{add-keeps, adopt-keeps, learn-keeps, wedge-keeps, inherit-keeps, catch-up-keeps}
 use Rattle.model.proofs.WellFormedInstall.{install-keeps}
 
 kind-keeps : (k : Kind) {Z : ℕ} {w : List ℕ} → WellFormed Z w → {z j : ℕ} → z < Z → j < 8 → (c d : ℕ) → areNumbers k Z c d ≡ true
@@ -31,6 +31,7 @@ kind-keeps Learn f hz hj c d n p = learn-keeps f hz hj c d p
 kind-keeps Wedge f hz hj c d n p = wedge-keeps f hz hj c p
 kind-keeps Install f hz hj c d n p = install-keeps f hz hj c d p
 kind-keeps Inherit f hz hj c d n p = inherit-keeps f hz hj c d (ltb-true d 16 (both (isHost c) (isHost d) .0 n .1)) p
+kind-keeps CatchUp f hz hj c d n p = catch-up-keeps f hz hj c d p
 kind-keeps Kept f hz hj c d n p = f
 kind-keeps Unknown f hz hj c d n p = f
 

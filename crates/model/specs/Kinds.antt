@@ -1,17 +1,18 @@
--- The six kinds of steps, and how many numbers each uses (document 01, "Steps" and rejections 3 and 4).
+-- The seven kinds of steps, and how many numbers each uses (document 01, "Steps" and rejections 3 and 4; request A4, kind 7).
 use Prim.Native.Nat.{ℕ}
 use mathlib.Core.Bool.{Bool, true, false, cond, _&&_}
 use lib.Dec.{leb, eqb}
 use Rattle.model.specs.declared.kind.Kind.{Kind}
-use Rattle.model.specs.declared.kind.Kind.the-variants.{Add, Adopt, Learn, Wedge, Install, Inherit, Kept, Unknown}
+use Rattle.model.specs.declared.kind.Kind.the-variants.{Add, Adopt, Learn, Wedge, Install, Inherit, CatchUp, Kept, Unknown}
 
--- "1 add", "2 adopt", "3 confirm" (here: learn), "4 wedge", "5 install", "6 inherit"; "kind 7 to 31, which are kept for later"; "kind 0 or above 31"
+-- "1 add", "2 adopt", "3 confirm" (here: learn), "4 wedge", "5 install", "6 inherit"; request A4: "Kind 7", here: catch up, and
+-- "Only kinds 8 to 31 are kept"; "kind 0 or above 31"
 unfoldable pub kindOf : ℕ → Kind
 kindOf n =
     cond (eqb n 1) Add
     (cond (eqb n 2) Adopt
     (cond (eqb n 3) Learn
-    (cond (eqb n 4) Wedge (cond (eqb n 5) Install (cond (eqb n 6) Inherit (cond (leb 7 n && leb n 31) Kept Unknown))))))
+    (cond (eqb n 4) Wedge (cond (eqb n 5) Install (cond (eqb n 6) Inherit (cond (eqb n 7) CatchUp (cond (leb 8 n && leb n 31) Kept Unknown)))))))
 
 -- rejection 3
 unfoldable pub isKept : Kind → Bool
@@ -21,6 +22,7 @@ isKept Learn = false
 isKept Wedge = false
 isKept Install = false
 isKept Inherit = false
+isKept CatchUp = false
 isKept Kept = true
 isKept Unknown = false
 
@@ -32,6 +34,7 @@ isUnknown Learn = false
 isUnknown Wedge = false
 isUnknown Install = false
 isUnknown Inherit = false
+isUnknown CatchUp = false
 isUnknown Kept = false
 isUnknown Unknown = true
 
@@ -43,10 +46,11 @@ namesHost Learn = true
 namesHost Wedge = true
 namesHost Install = true
 namesHost Inherit = true
+namesHost CatchUp = true
 namesHost Kept = true
 namesHost Unknown = true
 
--- the table's column "numbers"
+-- the table's column "numbers"; request A4: "(zone, index, box, source box)"
 unfoldable pub usedNumbers : Kind → ℕ
 usedNumbers Add = 3
 usedNumbers Adopt = 3
@@ -54,5 +58,6 @@ usedNumbers Learn = 4
 usedNumbers Wedge = 3
 usedNumbers Install = 4
 usedNumbers Inherit = 4
+usedNumbers CatchUp = 4
 usedNumbers Kept = 0
 usedNumbers Unknown = 0

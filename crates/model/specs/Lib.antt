@@ -1,4 +1,5 @@
--- What a reader has to believe: document 01, and the requests of document 02 that change it (A2, A3), as definitions, and the claims that are proved of them.
+-- What a reader has to believe: document 01, and the requests of document 02 that change it (A2, A3, A4), as definitions, and the claims that are
+-- proved of them.
 pub mod Tests
 pub mod Checks
 pub mod Kinds
@@ -17,6 +18,7 @@ pub mod Learn
 pub mod Wedge
 pub mod Install
 pub mod Inherit
+pub mod CatchUp
 pub mod Steps
 pub mod Numbers
 pub mod Log

@@ -11,7 +11,7 @@ use Rattle.model.specs.Steps.{rejection, after}
 use Rattle.model.specs.Log.{readStep}
 use Rattle.model.specs.Transcript.{programStart}
 
--- ---- steps of the six kinds, by the numbers that they use
+-- ---- steps of the seven kinds, by the numbers that they use
 
 abbrev pub add : ℕ → ℕ → ℕ → Step
 add z index e = record { kind = 1; a = z; b = index; c = e; d = 0 }
@@ -30,6 +30,9 @@ install z index h p = record { kind = 5; a = z; b = index; c = h; d = p }
 
 abbrev pub inherit : ℕ → ℕ → ℕ → ℕ → Step
 inherit z index h g = record { kind = 6; a = z; b = index; c = h; d = g }
+
+abbrev pub catchUp : ℕ → ℕ → ℕ → ℕ → Step
+catchUp z index h g = record { kind = 7; a = z; b = index; c = h; d = g }
 
 -- ---- cases
 

@@ -17,7 +17,7 @@ use Rattle.model.specs.Writer.{stepBytes, writeRejection}
 use Rattle.model.specs.Replay.{afterAll, rejectedIn, replayed}
 use Rattle.model.specs.Results.{readRejection, stepRead, bytesRead, nextRead, countBeside, replayNumber, replayCode, replayBytes}
 use Rattle.model.specs.Transcript.{programStart}
-use Rattle.model.specs.Marked.{add, adopt, learn, wedge, install, inherit, answersFrom, takesUpTo, nextIssue}
+use Rattle.model.specs.Marked.{add, adopt, learn, wedge, install, inherit, catchUp, answersFrom, takesUpTo, nextIssue}
 
 -- ---- what a case says
 
@@ -114,6 +114,10 @@ goneOn = inherit 1 2 3 3 ∷ inherit 1 2 5 3 ∷ add 1 2 13 ∷ adopt 1 2 5 ∷ 
 unfoldable pub twoSources : List Step
 twoSources = wedge 1 1 2 ∷ inherit 1 2 3 3 ∷ inherit 1 2 5 2 ∷ add 1 2 13 ∷ adopt 1 2 5 ∷ []
 
+-- .. the new orderer inherits and adds take 13, and then the other catches up from it
+unfoldable pub caughtUpAfter : List Step
+caughtUpAfter = inherit 1 2 3 3 ∷ add 1 2 13 ∷ catchUp 1 2 5 3 ∷ []
+
 -- what `replaced` leaves but for the replicas of index 2
 unfoldable pub heads : List (ℕ × List ℕ)
 heads =
@@ -150,6 +154,9 @@ pub record Effects : Type 0 where
   -- two sources: the host that adopts keeps its own
   pub origins : Leaves (replaced ++ twoSources)
       (heads ++ ((2176, 3 ∷ []) ∷ (2432, 2 ∷ 2 ∷ 1 ∷ 4 ∷ []) ∷ (2440, 12 ∷ 13 ∷ []) ∷ (2496, 2 ∷ 2 ∷ 1 ∷ 3 ∷ []) ∷ (2504, 12 ∷ 13 ∷ []) ∷ []))
+  -- the history, the stable length and the origin of the peer
+  pub catchesUp : Leaves (replaced ++ caughtUpAfter)
+      (heads ++ ((2432, 2 ∷ 2 ∷ 1 ∷ 4 ∷ []) ∷ (2440, 12 ∷ 13 ∷ []) ∷ (2496, 2 ∷ 2 ∷ 1 ∷ 4 ∷ []) ∷ (2504, 12 ∷ 13 ∷ []) ∷ []))
 
 -- "Setup: 1, 2.": no state has this length, and no plan this
 abbrev pub SetupOrder : Type 0
@@ -157,8 +164,8 @@ SetupOrder = setupRejection tooShort (0 ∷ []) ≡ 1
 
 -- "A step: 1, 3, 4, 7, 9, then .."
 pub record StepOrder : Type 0 where
-  pub length : (rejection tooShort (stepOf 7 []) ≡ 1) × (rejection tooShort (stepOf 0 []) ≡ 1) × (rejection tooShort (add 0 1 0) ≡ 1)
-  pub kind : (tried (stepOf 7 (9 ∷ []) ∷ []) ≡ 3 ∷ []) × (tried (stepOf 0 (9 ∷ []) ∷ []) ≡ 4 ∷ [])
+  pub length : (rejection tooShort (stepOf 8 []) ≡ 1) × (rejection tooShort (stepOf 0 []) ≡ 1) × (rejection tooShort (add 0 1 0) ≡ 1)
+  pub kind : (tried (stepOf 8 (9 ∷ []) ∷ []) ≡ 3 ∷ []) × (tried (stepOf 0 (9 ∷ []) ∷ []) ≡ 4 ∷ [])
   pub numbers : rejection illFormed (add 9 1 7) ≡ 7
   -- .. and the first check of each kind
   pub adds : rejection illFormed (add 0 2 7) ≡ 9
@@ -167,6 +174,7 @@ pub record StepOrder : Type 0 where
   pub wedges : rejection illFormed (wedge 0 2 1) ≡ 9
   pub installs : rejection illFormed (install 0 2 1 0) ≡ 9
   pub inherits : rejection illFormed (inherit 0 2 1 1) ≡ 9
+  pub catchesUp : rejection illFormed (catchUp 0 2 1 1) ≡ 9
 
 -- each kind: the first of two neighbours is told
 pub record KindOrders : Type 0 where
@@ -203,12 +211,19 @@ pub record KindOrders : Type 0 where
   pub inherits : (tried (inherit 1 2 9 9 ∷ []) ≡ 10 ∷ [])
       × (tried (replaced ++ (inherit 1 2 9 3 ∷ [])) ≡ replicate 8 0 ++ (11 ∷ []))
       × (tried (inherit 1 1 2 3 ∷ []) ≡ 12 ∷ [])
+  -- catch up: "the order is that of inherit". 13 is told of a peer that is pending, of the acting host itself, and of a host of the configuration before;
+  -- a wedged peer is accepted
+  pub catchesUp : (tried (catchUp 1 2 9 9 ∷ []) ≡ 10 ∷ [])
+      × (tried (replaced ++ (catchUp 1 2 9 3 ∷ [])) ≡ replicate 8 0 ++ (11 ∷ []))
+      × (tried (catchUp 1 1 2 9 ∷ []) ≡ 12 ∷ [])
+      × (tried (replaced ++ (catchUp 1 2 5 3 ∷ catchUp 1 2 5 5 ∷ catchUp 1 2 5 2 ∷ [])) ≡ replicate 8 0 ++ (13 ∷ 13 ∷ 13 ∷ []))
+      × (tried (replaced ++ (inherit 1 2 3 3 ∷ wedge 1 2 3 ∷ catchUp 1 2 5 3 ∷ [])) ≡ replicate 11 0)
 
 -- "Reader: 5 and 6 byte by byte, and 3 or 4 once the kind is read."
 pub record ReaderOrder : Type 0 where
   -- 6 in the kind; 3 and 4 before whatever is wrong after it
-  pub kind : readRejection (135 ∷ 0 ∷ []) ≡ 6
-  pub kept : (readRejection (7 ∷ []) ≡ 3) × (readRejection (7 ∷ 128 ∷ 0 ∷ []) ≡ 3)
+  pub kind : readRejection (136 ∷ 0 ∷ []) ≡ 6
+  pub kept : (readRejection (8 ∷ []) ≡ 3) × (readRejection (8 ∷ 128 ∷ 0 ∷ []) ≡ 3)
   pub unknown : (readRejection (0 ∷ []) ≡ 4) × (readRejection (0 ∷ 128 ∷ 0 ∷ []) ≡ 4)
   -- 6 before a 5 in a later number, and where a fifth byte is the last
   pub bytes : (readRejection (1 ∷ 128 ∷ 0 ∷ []) ≡ 6)
@@ -216,17 +231,19 @@ pub record ReaderOrder : Type 0 where
       × (readRejection (1 ∷ replicate 4 128) ≡ 5)
   -- a step is read with no more than its bytes; no bytes are the end
   pub step : Reads (3 ∷ 0 ∷ 1 ∷ 1 ∷ 172 ∷ 2 ∷ 9 ∷ []) (learn 0 1 1 300) 6
+  pub catchesUp : Reads (7 ∷ 1 ∷ 2 ∷ 5 ∷ 3 ∷ 9 ∷ []) (catchUp 1 2 5 3) 5
   pub end : Reads [] (stepOf 0 []) 0
   -- the position after the second of two steps, and none at the end
   pub position : (nextRead (4 ∷ 0 ∷ 1 ∷ 1 ∷ 4 ∷ 0 ∷ 1 ∷ 1 ∷ []) 4 ≡ 8) × (nextRead (4 ∷ 0 ∷ 1 ∷ 1 ∷ []) 4 ≡ 0)
 
 -- "Writer: 3, 4, 7, 8"
 pub record WriterOrder : Type 0 where
-  pub kept : Writes 0 (stepOf 7 (2 ^ 35 ∷ [])) 3 0
+  pub kept : Writes 0 (stepOf 8 (2 ^ 35 ∷ [])) 3 0
   pub unknown : Writes 0 (stepOf 0 (2 ^ 35 ∷ [])) 4 0
   pub numbers : Writes 0 (add 0 1 (2 ^ 35)) 7 0
   pub room : Writes 4 (add 0 1 300) 8 0
   pub step : Writes 5 (add 0 1 300) 0 5
+  pub catchesUp : Writes 5 (catchUp 1 2 5 3) 0 5
 
 -- "First 1, then 9, with nothing tried", also before damaged bytes; "ended (no bytes left, tested first), spent .. or damaged"
 pub record ReplayOrder : Type 0 where

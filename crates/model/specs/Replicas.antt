@@ -6,7 +6,7 @@ use lib.Dec.{eqb}
 use lib.ListN.{length, getD, take, drop, replicate}
 
 -- mode: 0 unused, 1 pending, 2 active, 3 immutable; history: the "list"; stable: the "confirmed length"; origin: the host from which the replica
--- inherited, plus 1, or 0 (request A3, "the source box + 1 once inherit is accepted")
+-- inherited, plus 1, or 0 (request A3, "the source box + 1 once inherit is accepted"), or that of the peer with which it caught up (request A4)
 pub record Replica : Type 0 where
   pub mode : ℕ
   pub history : List ℕ
@@ -79,3 +79,7 @@ wedged r = record { mode = 3; history = r .history; stable = r .stable; origin =
 -- inherit: "list and confirmed copied, seat active"; request A3: "Seat word 3 becomes the source box + 1", of the source host g
 unfoldable pub inherited : ℕ → Replica → Replica
 inherited g source = record { mode = 2; history = source .history; stable = source .stable; origin = g + 1 }
+
+-- catch up (request A4): "copy list and confirmed length .., and become active. Word 3 is copied too", of a peer
+unfoldable pub caughtUp : Replica → Replica
+caughtUp peer = record { mode = 2; history = peer .history; stable = peer .stable; origin = peer .origin }

@@ -4,7 +4,7 @@ use mathlib.Core.Path.{_≡_}
 use mathlib.Core.Bool.{Bool, false, cond}
 use lib.Dec.{leb}
 use Rattle.model.specs.declared.kind.Kind.{Kind}
-use Rattle.model.specs.declared.kind.Kind.the-variants.{Add, Adopt, Learn, Wedge, Install, Inherit, Kept, Unknown}
+use Rattle.model.specs.declared.kind.Kind.the-variants.{Add, Adopt, Learn, Wedge, Install, Inherit, CatchUp, Kept, Unknown}
 use Rattle.model.specs.declared.kind.Rules.{Rules}
 use Rattle.model.specs.Kinds.{kindOf, isKept, isUnknown, namesHost, usedNumbers}
 
@@ -25,6 +25,7 @@ mostFourth Learn = 56
 mostFourth Wedge = 0
 mostFourth Install = 55
 mostFourth Inherit = 15
+mostFourth CatchUp = 15
 mostFourth Kept = 0
 mostFourth Unknown = 0
 

@@ -5,7 +5,7 @@ use mathlib.Core.List.{List, [], _∷_}
 use lib.Dec.{leb, ltb, eqb}
 use lib.ListN.{length}
 use Rattle.model.specs.declared.kind.Kind.{Kind}
-use Rattle.model.specs.declared.kind.Kind.the-variants.{Add, Adopt, Learn, Wedge, Install, Inherit, Kept, Unknown}
+use Rattle.model.specs.declared.kind.Kind.the-variants.{Add, Adopt, Learn, Wedge, Install, Inherit, CatchUp, Kept, Unknown}
 use Rattle.model.specs.declared.step.Step.{Step}
 use Rattle.model.specs.Checks.{Check, firstOf, _orElse_}
 use Rattle.model.specs.Kinds.{kindOf, isKept, isUnknown, namesHost}
@@ -19,6 +19,7 @@ use Rattle.model.specs.Learn.{learnChecks, learnEffect}
 use Rattle.model.specs.Wedge.{wedgeChecks, wedgeEffect}
 use Rattle.model.specs.Install.{installChecks, installEffect}
 use Rattle.model.specs.Inherit.{inheritChecks, inheritEffect}
+use Rattle.model.specs.CatchUp.{catchUpChecks, catchUpEffect}
 
 -- "A step is a kind and four numbers": the shard, the configuration counted from 0, and the acting host ("the named one; for add, the orderer")
 unfoldable pub shardOf : Step → ℕ
@@ -38,6 +39,7 @@ areNumbers Learn Z c d = isHost c && leb d 56
 areNumbers Wedge Z c d = isHost c && eqb d 0
 areNumbers Install Z c d = isHost c && leb d 55
 areNumbers Inherit Z c d = isHost c && isHost d
+areNumbers CatchUp Z c d = isHost c && isHost d
 areNumbers Kept Z c d = true
 areNumbers Unknown Z c d = true
 
@@ -53,6 +55,7 @@ kindChecks Learn w z j c d = learnChecks w z j c d
 kindChecks Wedge w z j c d = wedgeChecks w z j c
 kindChecks Install w z j c d = installChecks w z j c d
 kindChecks Inherit w z j c d = inheritChecks w z j c d
+kindChecks CatchUp w z j c d = catchUpChecks w z j c d
 kindChecks Kept w z j c d = []
 kindChecks Unknown w z j c d = []
 
@@ -63,6 +66,7 @@ kindEffect Learn w z j c d = learnEffect w z j c d
 kindEffect Wedge w z j c d = wedgeEffect w z j c
 kindEffect Install w z j c d = installEffect w z j c d
 kindEffect Inherit w z j c d = inheritEffect w z j c d
+kindEffect CatchUp w z j c d = catchUpEffect w z j c d
 kindEffect Kept w z j c d = w
 kindEffect Unknown w z j c d = w
 

@@ -10,6 +10,7 @@ pub enum Kind {
     Wedge,
     Install,
     Inherit,
+    CatchUp,
     Kept,
     Unknown,
 }
@@ -23,8 +24,8 @@ pub struct Rules {
     pub host: bool,
 }
 
-// The bits of learn, install and inherit, 3, 5 and 6.
-const FOURTHS: u64 = 104;
+// The bits of learn, install, inherit and catch up, 3, 5, 6 and 7.
+const FOURTHS: u64 = 232;
 
 impl Kind {
     // The kind that a number names.
@@ -38,7 +39,8 @@ impl Kind {
             4 => Kind::Wedge,
             5 => Kind::Install,
             6 => Kind::Inherit,
-            7..=31 => Kind::Kept,
+            7 => Kind::CatchUp,
+            8..=31 => Kind::Kept,
             0 => Kind::Unknown,
             _ => Kind::Unknown,
         }
@@ -55,6 +57,7 @@ impl Kind {
             Kind::Wedge => row(0, 3, 0, true),
             Kind::Install => row(0, 4, 55, true),
             Kind::Inherit => row(0, 4, 15, true),
+            Kind::CatchUp => row(0, 4, 15, true),
             Kind::Kept => row(3, 0, 0, true),
             Kind::Unknown => row(4, 0, 0, true),
         }

@@ -1,4 +1,4 @@
--- A log reads to at most one step for each four bytes, whatever the budget, and to no more bytes than it has. Its steps have kinds from 1 to 6,
+-- A log reads to at most one step for each four bytes, whatever the budget, and to no more bytes than it has. Its steps have kinds from 1 to 7,
 -- and it stops as ended, as spent, or as damaged with a rejection from 3 to 6. The log may hold any numbers.
 -- Assumes nothing.
 use Prim.Native.Nat.{ℕ, zero, suc, _*_, _≤_}
@@ -16,7 +16,7 @@ use Rattle.model.specs.Log.{Log, readStep, withStep, stopped, isEmpty, logAfter
 use Rattle.model.proofs.RoundTrip.{step-within}
 use Rattle.transcript.proofs.StepSizes.{Damage, OneToSix, step-sized, step-damage}
 
--- every step has a kind from 1 to 6
+-- every step has a kind from 1 to 7
 abbrev pub KnownKinds : List Step → Type 0
 KnownKinds [] = Unit {0}
 KnownKinds (s ∷ ss) = OneToSix (s .kind) × KnownKinds ss

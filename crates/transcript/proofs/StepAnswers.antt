@@ -7,7 +7,7 @@ use mathlib.Core.List.{List, [], _∷_}
 use lib.Dec.{leb}
 use borrow.Author.Tests.{leb-true}
 use Rattle.model.specs.declared.kind.Kind.{Kind}
-use Rattle.model.specs.declared.kind.Kind.the-variants.{Add, Adopt, Learn, Wedge, Install, Inherit, Kept, Unknown}
+use Rattle.model.specs.declared.kind.Kind.the-variants.{Add, Adopt, Learn, Wedge, Install, Inherit, CatchUp, Kept, Unknown}
 use Rattle.model.specs.declared.step.Step.{Step}
 use Rattle.model.specs.Checks.{Check, firstOf}
 use Rattle.model.specs.Kinds.{kindOf}
@@ -17,6 +17,7 @@ use Rattle.model.specs.Learn.{learnChecks}
 use Rattle.model.specs.Wedge.{wedgeChecks}
 use Rattle.model.specs.Install.{installChecks}
 use Rattle.model.specs.Inherit.{inheritChecks}
+use Rattle.model.specs.CatchUp.{catchUpChecks}
 use Rattle.model.specs.Steps.{shardOf, configurationOf, kindChecks, stepChecks, rejection}
 use Rattle.model.proofs.Tests.{both}
 
@@ -37,13 +38,14 @@ first-most m (c ∷ cs) e =
     either false h l = l
 
 kind-most : (k : Kind) (w : List ℕ) (z j c d : ℕ) → areAtMost 23 (kindChecks k w z j c d) ≡ true
-unfolding kindChecks addChecks adoptChecks learnChecks wedgeChecks installChecks inheritChecks
+unfolding kindChecks addChecks adoptChecks learnChecks wedgeChecks installChecks inheritChecks catchUpChecks
 kind-most Add w z j c d = refl
 kind-most Adopt w z j c d = refl
 kind-most Learn w z j c d = refl
 kind-most Wedge w z j c d = refl
 kind-most Install w z j c d = refl
 kind-most Inherit w z j c d = refl
+kind-most CatchUp w z j c d = refl
 kind-most Kept w z j c d = refl
 kind-most Unknown w z j c d = refl
 

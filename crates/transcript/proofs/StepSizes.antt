@@ -1,4 +1,4 @@
--- A step that is read has at least four bytes and a kind from 1 to 6, and a rejection of a log is 3 to 6. The log may hold any numbers.
+-- A step that is read has at least four bytes and a kind from 1 to 7, and a rejection of a log is 3 to 6. The log may hold any numbers.
 -- Assumes nothing.
 use Prim.Native.Nat.{ℕ, zero, suc, _%_, _≤_}
 use native.Mathlib.Omega.{arith}
@@ -75,10 +75,10 @@ numbers-sized (suc count) bs = go (readNumber bs) (number-sized bs) (λ n. numbe
 
 -- ---- a step
 
--- a kind from 1 to 6
+-- a kind from 1 to 7
 pub record OneToSix (k : ℕ) : Type 0 where
   pub least : 1 ≤ k
-  pub most : k ≤ 6
+  pub most : k ≤ 7
 
 -- kind 0 is unknown
 kind-least : (k : ℕ) → isUnknown (kindOf k) ≡ false → 1 ≤ k

@@ -11,7 +11,7 @@ pub enum Rejection {
     StateLength = 1,
     /// The plan's length is not 3 × Z, or its shards are not well-formed.
     Plan = 2,
-    /// Kind 7 to 31.
+    /// Kind 8 to 31.
     KindKept = 3,
     /// Kind 0 or above 31.
     KindUnknown = 4,
@@ -31,7 +31,7 @@ pub enum Rejection {
     NoMember = 11,
     /// The acting replica has the wrong mode; for add, the orderer's.
     ActingMode = 12,
-    /// The other replica has the wrong mode, or the source of an inherit is no member.
+    /// The other replica has the wrong mode, or the source of an inherit or the peer of a catch-up is no member.
     OtherMode = 13,
     /// Adopt by the orderer.
     ByOrderer = 14,

@@ -41,4 +41,9 @@ impl Step {
     pub const fn inherit(shard: u64, index: u64, host: u64, source: u64) -> Step {
         Step::new(6, [shard, index, host, source])
     }
+
+    /// The pending replica takes over the history of a peer, a replica of its own configuration that is not pending.
+    pub const fn catch_up(shard: u64, index: u64, host: u64, peer: u64) -> Step {
+        Step::new(7, [shard, index, host, peer])
+    }
 }

@@ -70,6 +70,12 @@ impl<'a> View<'a> {
         self.hosts(shard, index).zip(parts).map(move |(host, words)| Replica { index, host, words })
     }
 
+    /// Where the words of a member's replica begin.
+    pub fn place(self, shard: u64, index: u64, host: u64) -> usize {
+        let number = self.hosts(shard, index).take_while(|&other| other != host).count();
+        shard as usize * SHARD_WORDS + 64 + (index as usize - 1) * 256 + number * 64
+    }
+
     /// The replicas of all installed configurations of a shard.
     pub fn all_replicas(self, shard: u64) -> impl Iterator<Item = Replica<'a>> {
         (1..=self.installed(shard)).flat_map(move |index| self.replicas(shard, index))

@@ -36,4 +36,5 @@ fn assert_complete(coverage: &Coverage) {
     assert!(coverage.kinds[1][23] >= 100, "hardly any rival issue added\n{coverage}");
     assert!(coverage.kinds[5][22] >= 100, "hardly any rival issue installed\n{coverage}");
     assert!(coverage.unlike >= 100, "hardly any unlike histories\n{coverage}");
+    assert!(coverage.catch_ups.are_complete(100), "hardly any catch-ups of a sort\n{coverage}");
 }

@@ -2,7 +2,9 @@
 
 use penkwadar_tests::step::Step;
 use penkwadar_tests::testing::both;
-use penkwadar_tests::testing::logs::{is_writable, push_number, push_step, used, writable_step};
+use penkwadar_tests::testing::logs::{
+    KINDS, is_writable, push_number, push_step, used, writable_step,
+};
 use penkwadar_tests::testing::random::Random;
 use penkwadar_tests::testing::settings;
 use penkwadar_tests::testing::steps::{arbitrary, odd_number};
@@ -32,7 +34,7 @@ fn expected(step: Step, room: usize, count_len: usize) -> Result<usize, u64> {
     push_step(&mut bytes, step);
     match step.kind {
         _ if count_len == 0 => Err(8),
-        7..=31 => Err(3),
+        8..=31 => Err(3),
         0 | 32.. => Err(4),
         _ if !is_writable(step) => Err(7),
         _ if bytes.len() > room => Err(8),
@@ -85,7 +87,7 @@ fn any_byte(random: &mut Random) -> u8 {
         2 => 0x80,
         3 | 4 => random.word() as u8 | 0x80,
         5 => random.below(34) as u8,
-        _ => random.within(1..=6) as u8,
+        _ => random.within(KINDS) as u8,
     }
 }
 
@@ -127,7 +129,7 @@ fn short_outputs() {
     let mut log = Vec::new();
     push_step(&mut log, Step::wedge(1, 2, 5));
     for step_len in 0..9 {
-        for (bytes, rejection) in [(&log[..], 0), (&[], 0), (&[7], 3), (&[0], 4), (&[0x80], 5)] {
+        for (bytes, rejection) in [(&log[..], 0), (&[], 0), (&[8], 3), (&[0], 4), (&[0x80], 5)] {
             let read = both::read_step_into(bytes, 0, step_len);
             let answer = if step_len < 6 { 8 } else { rejection };
             assert_eq!(read.err().unwrap_or(0), answer, "{bytes:02x?} into {step_len} words");

@@ -24,7 +24,7 @@ fn steps() -> Vec<Step> {
         Step::add(1, 1, 20_000),
         Step::wedge(1, 1, 2),
         Step::inherit(1, 2, 3, 2),
-        Step::inherit(1, 2, 5, 2),
+        Step::catch_up(1, 2, 5, 3),
         Step::add(1, 2, 3_000_000),
         Step::adopt(1, 2, 5),
         Step::learn(1, 2, 5, 2),
@@ -145,7 +145,7 @@ fn bytes_that_are_no_number() {
 fn kinds_that_are_none() {
     let (log, starts) = log();
     let starts = starts.into_iter().chain([log.len()]);
-    let kinds = (7..=31)
+    let kinds = (8..=31)
         .map(|kind| (kind, 3))
         .chain([0, 32, 33, 127, 128, 160, 1 << 14, 1 << 32, (1 << 35) - 1].map(|kind| (kind, 4)));
     let mut met = [0; 5];
@@ -187,7 +187,7 @@ fn every_value_of_every_byte() {
 /// A kind is a number like the others, and is judged before what follows.
 #[test]
 fn edges_of_document_01() {
-    let expected: [(&[u8], u64); 14] = [
+    let expected: [(&[u8], u64); 18] = [
         (&[0x80], 5),
         (&[0x80, 0x00], 6),
         (&[1, 0x80, 0x80, 0x80, 0x80, 0x80], 6),
@@ -196,11 +196,15 @@ fn edges_of_document_01() {
         (&[0xff, 0xff, 0xff, 0xff, 0x7f], 4),
         (&[0xff, 0xff, 0xff, 0xff, 0xff], 6),
         (&[0xff, 0xff, 0xff, 0xff], 5),
-        (&[7], 3),
-        (&[7, 0x80], 3),
-        (&[7, 0x80, 0x00], 3),
+        (&[7], 5),
+        (&[7, 0x80], 5),
+        (&[7, 0x80, 0x00], 6),
+        (&[8], 3),
+        (&[8, 0x80], 3),
+        (&[8, 0x80, 0x00], 3),
         (&[0x80, 0x80, 0x80, 0x80, 0x00], 6),
         (&[4, 1, 2], 5),
+        (&[7, 1, 2, 5], 5),
         (&[0], 4),
     ];
     for (bytes, answer) in expected {
@@ -209,4 +213,5 @@ fn edges_of_document_01() {
     }
     assert_eq!(both::read_step(&[4, 1, 2, 5], 0), Ok([4, 1, 2, 5, 0, 4]));
     assert_eq!(both::read_step(&[1, 0, 1, 0xac, 2], 0), Ok([1, 0, 1, 300, 0, 5]));
+    assert_eq!(both::read_step(&[7, 1, 2, 5, 3], 0), Ok([7, 1, 2, 5, 3, 5]));
 }

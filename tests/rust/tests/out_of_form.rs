@@ -11,13 +11,14 @@ use penkwadar_tests::testing::twin::Twin;
 use penkwadar_tests::view::{SHARD_WORDS, issue};
 
 /// One step of each kind, in range whatever the state is.
-const STEPS: [Step; 6] = [
+const STEPS: [Step; 7] = [
     Step::add(0, 1, 7),
     Step::adopt(0, 1, 1),
     Step::learn(1, 1, 2, 1),
     Step::wedge(1, 2, 3),
     Step::install(0, 1, 2, 0),
     Step::inherit(1, 2, 3, 4),
+    Step::catch_up(1, 2, 3, 4),
 ];
 
 /// In range whatever the state is.
@@ -193,7 +194,7 @@ fn wrong_lengths() {
         let mut contents = well_formed.clone();
         contents.resize(length, 0);
         let mut state = Twin::new(&contents);
-        for step in STEPS.into_iter().chain([Step::default(), Step::new(7, [u64::MAX; 4])]) {
+        for step in STEPS.into_iter().chain([Step::default(), Step::new(8, [u64::MAX; 4])]) {
             assert_eq!(both::step(&mut state, step), 1, "{step:?} on {length} words");
         }
         assert_eq!(both::replay(&mut state, &LOG, 1).answer, 1, "replay on {length} words");
@@ -207,13 +208,17 @@ fn wrong_lengths() {
 fn order_of_rejections() {
     let mut state = Twin::filled(2 * SHARD_WORDS, 0);
     let expected = [
-        (Step::new(7, [9; 4]), 3),
+        (Step::new(8, [9; 4]), 3),
+        (Step::new(31, [9; 4]), 3),
         (Step::new(32, [9; 4]), 4),
         (Step::new(0, [9; 4]), 4),
         (Step::add(2, 1, 7), 7),
         (Step::add(0, 9, 7), 7),
         (Step::add(0, 1, 0), 7),
         (Step::new(2, [0, 1, 1, 1]), 7),
+        (Step::new(7, [9; 4]), 7),
+        (Step::catch_up(0, 1, 0, 16), 7),
+        (Step::catch_up(0, 1, 0, 1), 9),
         (Step::add(0, 1, 7), 9),
     ];
     for (step, answer) in expected {

@@ -199,7 +199,7 @@ fn short_reports() {
             assert_eq!(replayed.answer, answer, "report of {report_len} words");
             assert_eq!(replayed.report, (answer == 0).then_some([0; 4]));
         }
-        let damaged = both::replay_into(&mut Twin::new(&good), &[7], 1, report_len);
+        let damaged = both::replay_into(&mut Twin::new(&good), &[8], 1, report_len);
         assert_eq!(damaged.answer, if report_len < 4 { 8 } else { 3 });
     }
 }
@@ -214,7 +214,7 @@ fn budgets() {
     let cases: [(&[u8], u64, u64, [u64; 3]); 8] = [
         (&[], 0, 0, [0, 0, 0]),
         (&[], u64::MAX, 0, [0, 0, 0]),
-        (&[7], 0, 0, [1, 0, 0]),
+        (&[8], 0, 0, [1, 0, 0]),
         (&twice, 0, 0, [1, 0, 0]),
         (&twice, 1, 0, [1, 1, 4]),
         (&twice, 2, 0, [0, 2, 8]),

@@ -44,5 +44,7 @@ fn assert_complete(coverage: &Coverage) {
     assert!(all(&coverage.indices[2..]), "an index was never installed\n{coverage}");
     assert!(coverage.full > 0, "no history was filled\n{coverage}");
     assert!(coverage.unlike > 0, "no histories were unlike\n{coverage}");
+    assert!(coverage.catch_ups.are_complete(100), "a sort of catch-up is missing\n{coverage}");
+    assert!(coverage.catch_ups.again >= 50, "hardly any peer caught up itself\n{coverage}");
     assert_eq!(coverage.capped, 0, "an adopt was capped in a run from setup\n{coverage}");
 }

@@ -4,6 +4,7 @@ use penkwadar_tests::claims::Claims;
 use penkwadar_tests::plain;
 use penkwadar_tests::proved::TRACE_HOSTS;
 use penkwadar_tests::seat::Seat;
+use penkwadar_tests::step::Step;
 use penkwadar_tests::testing::both;
 use penkwadar_tests::testing::plans::plan;
 use penkwadar_tests::testing::random::Random;
@@ -13,16 +14,17 @@ use penkwadar_tests::testing::states::{spoil_state, well_formed};
 use penkwadar_tests::testing::steps::any_step;
 use penkwadar_tests::testing::temper::Temper;
 use penkwadar_tests::testing::twin::Twin;
-use penkwadar_tests::view::{PENDING, SHARD_WORDS, View};
+use penkwadar_tests::view::{PENDING, Replica, SHARD_WORDS, View};
 
 /// What an output holds before a call.
 const UNWRITTEN: u64 = 0xeeee_eeee;
 
-/// How many traces were met: by their length, and of pending replicas; and rejections.
+/// How many traces were met: by their length, of pending replicas, and of such that just caught up; and rejections.
 #[derive(Debug, Default)]
 struct Met {
     lengths: [u64; 8],
     pending: u64,
+    caught_up: u64,
     answers: [u64; 12],
 }
 
@@ -45,13 +47,21 @@ impl Met {
         Some(hosts.to_vec())
     }
 
+    /// A replica that just caught up has the trace of its peer.
+    fn compare(&mut self, state: &mut Twin<u64>, catch_up: Step) {
+        let [shard, index, host, peer] = catch_up.numbers;
+        let [heir, peer] = [host, peer].map(|host| Seat { shard, index, host });
+        assert_eq!(self.trace(state, heir), self.trace(state, peer), "{catch_up:?}");
+        self.caught_up += 1;
+    }
+
     fn assert_complete(&self) {
         assert!(self.lengths.iter().all(|&count| count > 20) && self.pending > 20, "{self:?}");
         assert!([0, 7, 10, 11].iter().all(|&answer| self.answers[answer] > 100), "{self:?}");
     }
 }
 
-/// In a run every trace is what the inherits of the run say.
+/// In a run every trace is what the inherits and catch-ups of the run say.
 #[test]
 fn runs_from_setup() {
     let mut met = Met::default();
@@ -60,6 +70,7 @@ fn runs_from_setup() {
     }
     println!("{met:?}");
     met.assert_complete();
+    assert!(met.caught_up > 100, "{met:?}");
 }
 
 fn one_run(random: &mut Random, met: &mut Met) {
@@ -72,6 +83,9 @@ fn one_run(random: &mut Random, met: &mut Met) {
         let step = any_step(random, View::new(state.get()), &temper);
         let answer = both::step(&mut state, step);
         assert_eq!(claims.after_step(step, answer, state.get()), Ok(()));
+        if step.kind == 7 && answer == 0 {
+            met.compare(&mut state, step);
+        }
         if moment % 100 == 0 {
             for seat in all_seats(random.below(shards)) {
                 if let Some(hosts) = met.trace(&mut state, seat) {
@@ -96,6 +110,35 @@ fn borrowed_states() {
     }
     println!("{met:?}");
     met.assert_complete();
+}
+
+/// Every pending replica catches up from every peer that is not pending, whatever the peer's origin is.
+#[test]
+fn every_catch_up() {
+    let mut random = Random::new(settings::seed() + 5);
+    let mut met = Met::default();
+    for run in 0..560 {
+        let words = well_formed(&mut random, 2 + run % 7);
+        for step in catch_ups(View::new(&words), run % 2) {
+            let mut state = Twin::new(&words);
+            assert_eq!(both::step(&mut state, step), 0, "{step:?}");
+            met.compare(&mut state, step);
+        }
+    }
+    println!("{met:?}");
+    assert!(met.lengths[1..].iter().all(|&count| count > 20), "{met:?}");
+}
+
+/// All catch-ups that a shard of a well-formed state accepts.
+fn catch_ups(view: View, shard: u64) -> Vec<Step> {
+    let replicas: Vec<Replica> = view.all_replicas(shard).collect();
+    let (heirs, peers): (Vec<Replica>, Vec<Replica>) =
+        replicas.into_iter().partition(|replica| replica.mode() == PENDING);
+    let of = |heir: Replica| {
+        let peers = peers.iter().filter(move |peer| peer.index == heir.index);
+        peers.map(move |peer| Step::catch_up(shard, heir.index, heir.host, peer.host))
+    };
+    heirs.into_iter().flat_map(of).collect()
 }
 
 /// Outputs of any length, states out of form and of a wrong length.

@@ -47,7 +47,7 @@ fn proved_traces() {
 
 fn steps<I: Interface>() {
     let vectors = step_vectors();
-    assert!(vectors.len() >= 2_140, "only {} vectors", vectors.len());
+    assert!(vectors.len() >= 2_540, "only {} vectors", vectors.len());
     for (number, mut vector) in (1..).zip(vectors) {
         let answer = I::step(&mut vector.words, vector.step);
         assert_eq!(answer, vector.answer, "answer of vector {number}");
@@ -57,7 +57,7 @@ fn steps<I: Interface>() {
 
 fn programs<I: Interface>() {
     let vectors = program_vectors();
-    assert!(vectors.len() >= 175, "only {} vectors", vectors.len());
+    assert!(vectors.len() >= 214, "only {} vectors", vectors.len());
     for vector in vectors {
         let (mut out, mut count) = (vec![0xee; 50_000], [7]);
         let answer = I::transcript(&vector.input, &mut out, &mut count);

@@ -37,7 +37,7 @@ fn last_of(steps: &[Step]) -> Result<(), Rejection> {
 #[test]
 fn edge_cases_of_steps() {
     let seven = Step::add(0, 1, 7);
-    let cases: [(&[Step], Result<(), Rejection>); 15] = [
+    let cases: [(&[Step], Result<(), Rejection>); 17] = [
         (&[seven, seven], Err(Rejection::EntryHeld)),
         (&[seven, Step::learn(0, 1, 0, 1)], Err(Rejection::NotAlike)),
         (&[Step::learn(0, 1, 0, 0)], Err(Rejection::NotAboveStable)),
@@ -53,6 +53,8 @@ fn edge_cases_of_steps() {
         (&[Step::add(0, 1, SUCCESSOR), Step::install(1, 1, 0, 0)], Err(Rejection::NoStableIssue)),
         (&[Step::add(0, 1, issue(2, 2, 3, 8))], Err(Rejection::Range)),
         (&[Step::inherit(0, 1, 0, 1)], Err(Rejection::ActingMode)),
+        (&[Step::catch_up(0, 1, 0, 1)], Err(Rejection::ActingMode)),
+        (&[Step::catch_up(0, 1, 0, 16)], Err(Rejection::Range)),
     ];
     for (steps, answer) in cases {
         assert_eq!(last_of(steps), answer, "{steps:?}");
@@ -110,6 +112,30 @@ fn reconfiguration() {
     assert_eq!(state.stable_history(2), Err(Rejection::Range));
     let view = View::new(state.words());
     assert_eq!((view.installed(1), view.orderer(1, 2)), (2, 3));
+}
+
+/// A new box reaches a colleague before any frozen box: it gets its list, and where the list came from.
+#[test]
+fn box_that_catches_up() {
+    let mut state = state();
+    let seat = |index, host| Seat { shard: 1, index, host };
+    run(&mut state, &[Step::add(1, 1, 12), Step::adopt(1, 1, 3), Step::learn(1, 1, 2, 1)]);
+    run(&mut state, &[Step::add(0, 1, SUCCESSOR), Step::adopt(0, 1, 1), Step::learn(0, 1, 1, 1)]);
+    run(&mut state, &[Step::wedge(1, 1, 2), Step::install(1, 1, 1, 0)]);
+    let catch_up = Step::catch_up(1, 2, 5, 3);
+    assert_eq!(state.step(catch_up), Err(Rejection::OtherMode), "a pending colleague");
+    assert_eq!(state.step(Step::inherit(1, 2, 3, 2)), Ok(()));
+    assert_eq!(state.step(Step::catch_up(1, 3, 5, 3)), Err(Rejection::NotInstalled));
+    assert_eq!(state.step(Step::catch_up(1, 2, 2, 3)), Err(Rejection::NoMember));
+    assert_eq!(state.step(Step::catch_up(1, 2, 3, 3)), Err(Rejection::ActingMode));
+    assert_eq!(state.step(Step::catch_up(1, 2, 5, 2)), Err(Rejection::OtherMode), "no member");
+    assert_eq!(state.step(Step::catch_up(1, 2, 5, 5)), Err(Rejection::OtherMode), "itself");
+    assert_eq!(state.step(catch_up), Ok(()));
+    assert_eq!(state.step(catch_up), Err(Rejection::ActingMode), "once more");
+    assert_eq!(state.stable_prefix(seat(2, 5)), Ok(vec![12]));
+    assert_eq!(state.trace(seat(2, 5)), Ok(vec![2]), "as its colleague");
+    run(&mut state, &[Step::add(1, 2, 13), Step::adopt(1, 2, 5), Step::learn(1, 2, 5, 2)]);
+    assert_eq!(state.stable_history(1), Ok(vec![12, 13]));
 }
 
 #[test]
@@ -226,6 +252,8 @@ fn transcript_of_the_sample() {
 fn codec() {
     assert_eq!(read_step(&[4, 1, 2, 5], 0), Ok(Some((Step::wedge(1, 2, 5), 4))));
     assert_eq!(read_step(&[1, 0, 1, 0xac, 2], 0), Ok(Some((Step::add(0, 1, 300), 5))));
+    assert_eq!(read_step(&[7, 1, 2, 5, 3], 0), Ok(Some((Step::catch_up(1, 2, 5, 3), 5))));
+    assert_eq!(read_step(&[8, 1, 2, 5, 3], 0), Err(Rejection::KindKept));
     assert_eq!(read_step(&[4, 1, 2, 5], 4), Ok(None));
     assert_eq!(read_step(&[], 9), Ok(None));
     assert_eq!(read_step(&[0x80, 0], 0), Err(Rejection::NumberBytes));

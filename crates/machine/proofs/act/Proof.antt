@@ -8,7 +8,8 @@ use Rattle.copy_steps.proofs.AdoptSteps as adopt-steps
 use Rattle.replica_steps.proofs.LearnSteps as learn-steps
 use Rattle.replica_steps.proofs.WedgeSteps as wedge-steps
 use Rattle.install_steps.proofs.InstallSteps as install-steps
-use Rattle.copy_steps.proofs.InheritSteps as inherit-steps
+use Rattle.copy_steps.proofs.InheritSteps.{inheriting}
+use Rattle.copy_steps.proofs.CatchUpSteps.{catching-up}
 use Rattle.machine.proofs.ByKind.{least, ready, by-numbers, orders, by-host, kept-for-later, no-kind}
 use borrow.Author.Needs.{needs}
 use Rattle.machine.proofs.act.Statement.{statement}
@@ -91,8 +92,16 @@ inherit-requires c κs =
 enum-told-7 : tie.Need-enum-told-7
 enum-told-7 c = search needs
 
+catch-up-requires : tie.Need-catch-up-requires
+catch-up-requires c κs =
+    let z = c .before .before .before .before .before .before .before .before in
+    ready (z .before .before .pre) (z .shard .ensures)
+
 enum-told-8 : tie.Need-enum-told-8
 enum-told-8 c = search needs
+
+enum-told-9 : tie.Need-enum-told-9
+enum-told-9 c = search needs
 
 same-length : tie.Need-same-length
 same-length c = search needs
@@ -161,16 +170,20 @@ returns-6 c =
     let d = c .before .before in
     let k = d .before .before .before .before in
     let z = k .before .before .before .before .before in
-    by-host (z .before .before .pre) (z .shard .ensures) (sym (k .of .ensures) ∙ d .before .before .enum-told6 .given .1) inherit-steps.known _
+    by-host (z .before .before .pre) (z .shard .ensures) (sym (k .of .ensures) ∙ d .before .before .enum-told6 .given .1) (inheriting .known) _
     (k .before .host .ensures) refl (d .inherit .ensures)
 
 same-length-7 : tie.Need-same-length-7
 same-length-7 c = search needs
 
 returns-7 : tie.Need-returns-7
+unfolding namesHost
 returns-7 c =
-    let k = c .before .before in
-    kept-for-later (k .before .before .before .before .before .before .before .pre) (sym (k .of .ensures) ∙ c .enum-told7 .given .1)
+    let d = c .before .before in
+    let k = d .before .before .before .before in
+    let z = k .before .before .before .before .before in
+    by-host (z .before .before .pre) (z .shard .ensures) (sym (k .of .ensures) ∙ d .before .before .enum-told7 .given .1) (catching-up .known) _
+    (k .before .host .ensures) refl (d .catch-up .ensures)
 
 same-length-8 : tie.Need-same-length-8
 same-length-8 c = search needs
@@ -178,7 +191,15 @@ same-length-8 c = search needs
 returns-8 : tie.Need-returns-8
 returns-8 c =
     let k = c .before .before in
-    no-kind (k .before .before .before .before .before .before .before .pre) (sym (k .of .ensures) ∙ c .enum-told8 .given .1)
+    kept-for-later (k .before .before .before .before .before .before .before .pre) (sym (k .of .ensures) ∙ c .enum-told8 .given .1)
+
+same-length-9 : tie.Need-same-length-9
+same-length-9 c = search needs
+
+returns-9 : tie.Need-returns-9
+returns-9 c =
+    let k = c .before .before in
+    no-kind (k .before .before .before .before .before .before .before .pre) (sym (k .of .ensures) ∙ c .enum-told9 .given .1)
 
 pub act-spec : {M : Type 1} → statement M
 act-spec =
@@ -202,7 +223,9 @@ act-spec =
     enum-told-6
     inherit-requires
     enum-told-7
+    catch-up-requires
     enum-told-8
+    enum-told-9
     same-length
     returns
     same-length-2
@@ -218,4 +241,6 @@ act-spec =
     same-length-7
     returns-7
     same-length-8
-    returns-8)
+    returns-8
+    same-length-9
+    returns-9)

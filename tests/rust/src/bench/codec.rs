@@ -6,7 +6,7 @@ use super::clock::{Case, measure};
 use super::table::{Table, ns, ratio};
 use crate::interface::Interface;
 use crate::step::Step;
-use crate::testing::logs::{push_step, writable_step};
+use crate::testing::logs::{KINDS, push_step, writable_step};
 use crate::testing::random::Random;
 
 const STEPS: usize = 4_000;
@@ -17,13 +17,14 @@ type Source = fn(&mut Random) -> Step;
 /// Numbers as in runs: small but for the entries.
 fn run_step(random: &mut Random) -> Step {
     let (shard, index, host) = (random.below(8), random.within(1..=8), random.below(16));
-    match random.within(1..=6) {
+    match random.within(KINDS) {
         1 => Step::add(shard, index, (random.any_width() >> 32).max(1)),
         2 => Step::adopt(shard, index, host),
         3 => Step::learn(shard, index, host, random.below(57)),
         4 => Step::wedge(shard, index, host),
         5 => Step::install(shard, index, host, random.below(56)),
-        _ => Step::inherit(shard, index, host, random.below(16)),
+        6 => Step::inherit(shard, index, host, random.below(16)),
+        _ => Step::catch_up(shard, index, host, random.below(16)),
     }
 }
 

@@ -20,16 +20,37 @@ struct Replays {
     source: Vec<u64>,
     before: Vec<u64>,
     words: Vec<u64>,
+    temper: &'static Temper,
     steps: usize,
-    log: Vec<u8>,
-    rejected: u64,
+    log: Log,
 }
+
+/// The bytes of steps, how many are rejected, and how many are catch-ups that are accepted.
+#[derive(Default)]
+struct Log {
+    bytes: Vec<u8>,
+    rejected: u64,
+    caught_up: u64,
+}
+
+/// Steps of all kinds but catch-ups.
+const MIXED: Temper = Temper {
+    kinds: [40, 20, 20, 2, 8, 10, 0],
+    arbitrary: 2,
+    disturbed: 3,
+    issues: 20,
+    rivals: 10,
+    replays: 0,
+};
+
+/// Steps of all kinds, with configurations that follow each other quickly.
+const CHANGING: Temper = Temper { kinds: [10, 25, 25, 2, 20, 10, 10], issues: 80, ..MIXED };
 
 impl Case for Replays {
     fn refresh(&mut self) {
         let mut words = self.source.clone();
         let mut state = plain::State::check(&mut words).expect("a state after setup");
-        (self.log, self.rejected) = mixed_log(&mut self.random, &mut state, self.steps);
+        self.log = mixed_log(&mut self.random, &mut state, self.temper, self.steps);
     }
 
     fn restore(&mut self) {
@@ -39,7 +60,7 @@ impl Case for Replays {
     fn run<I: Interface>(&mut self) -> u64 {
         let mut report = [0; 4];
         let words = black_box(&mut self.words[..]);
-        let answer = I::replay(words, black_box(&self.log), u64::MAX, &mut report);
+        let answer = I::replay(words, black_box(&self.log.bytes), u64::MAX, &mut report);
         answer + report.iter().sum::<u64>()
     }
 
@@ -54,6 +75,10 @@ impl Replays {
         Replays::with(before.clone(), before, steps)
     }
 
+    fn changing(shards: u64, steps: usize) -> Replays {
+        Replays { temper: &CHANGING, ..Replays::new(shards, steps) }
+    }
+
     /// Logs made for two shards, on a state of more.
     fn of_two(shards: u64, steps: usize) -> Replays {
         Replays::with(after_setup(pairs(2)), after_setup(pairs(shards)), steps)
@@ -65,49 +90,43 @@ impl Replays {
             source,
             words: before.clone(),
             before,
+            temper: &MIXED,
             steps,
-            log: Vec::new(),
-            rejected: 0,
+            log: Log::default(),
         }
     }
 }
 
-/// So many steps of all kinds, and how many of them are rejected.
-fn mixed_log(random: &mut Random, state: &mut plain::State, steps: usize) -> (Vec<u8>, u64) {
-    let temper = Temper {
-        kinds: [40, 20, 20, 2, 8, 10],
-        arbitrary: 2,
-        disturbed: 3,
-        issues: 20,
-        rivals: 10,
-        replays: 0,
-    };
-    let (mut log, mut rejected, mut written) = (Vec::new(), 0, 0);
+/// So many steps.
+fn mixed_log(random: &mut Random, state: &mut plain::State, temper: &Temper, steps: usize) -> Log {
+    let (mut log, mut written) = (Log::default(), 0);
     while written < steps {
-        let step = any_step(random, View::new(state.words()), &temper);
+        let step = any_step(random, View::new(state.words()), temper);
         if is_writable(step) {
-            rejected += u64::from(state.step(step).is_err());
-            push_step(&mut log, step);
+            let accepted = state.step(step).is_ok();
+            log.rejected += u64::from(!accepted);
+            log.caught_up += u64::from(accepted && step.kind == 7);
+            push_step(&mut log.bytes, step);
             written += 1;
         }
     }
-    (log, rejected)
+    log
 }
 
-fn row(table: &mut Table, shards: u64, steps: usize) {
-    let mut replays = Replays::new(shards, steps);
-    let [proved, plain] = measure(&mut replays);
-    let each = |time: f64| ns(time / steps.max(1) as f64);
-    table.row(&[
-        shards.to_string(),
-        steps.to_string(),
-        replays.rejected.to_string(),
+/// The cells of a row.
+fn cells(replays: &mut Replays) -> Vec<String> {
+    let [proved, plain] = measure(replays);
+    let each = |time: f64| ns(time / replays.steps.max(1) as f64);
+    vec![
+        View::new(&replays.words).shards().to_string(),
+        replays.steps.to_string(),
+        replays.log.rejected.to_string(),
         ns(proved),
         ns(plain),
         each(proved),
         each(plain),
         ratio(proved, plain),
-    ]);
+    ]
 }
 
 const COLUMNS: [&str; 8] = [
@@ -128,14 +147,28 @@ pub fn tables() -> Vec<Table> {
         &COLUMNS,
     );
     for steps in [0, 1, 10, 100, 1_000, 10_000] {
-        row(&mut lengths, 2, steps);
+        lengths.row(&cells(&mut Replays::new(2, steps)));
     }
     let mut shards =
         Table::new("## Replays by number of shards\n\nThe same with 1,000 steps.", &COLUMNS);
     for count in 2..=8 {
-        row(&mut shards, count, 1_000);
+        shards.row(&cells(&mut Replays::new(count, 1_000)));
     }
-    vec![lengths, shards, same_logs()]
+    vec![lengths, shards, changing(), same_logs()]
+}
+
+fn changing() -> Table {
+    let mut table = Table::new(
+        "## Replays with catch-ups\n\nLogs in which configurations follow each other quickly, and replicas catch up as often as \
+         they inherit; those above have next to no catch-ups.",
+        &[&COLUMNS[..], &["caught up (last)"]].concat(),
+    );
+    for (shards, steps) in [(2, 100), (2, 1_000), (8, 1_000), (8, 10_000)] {
+        let mut replays = Replays::changing(shards, steps);
+        let cells = cells(&mut replays);
+        table.row(&[cells, vec![replays.log.caught_up.to_string()]].concat());
+    }
+    table
 }
 
 /// Logs that two shards alone make, on states of several numbers of shards. The check is taken off, as a replay of no steps.

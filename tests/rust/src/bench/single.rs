@@ -9,7 +9,7 @@ use crate::interface::{Interface, Plain};
 use crate::step::Step;
 use crate::testing::logs::push_step;
 use crate::testing::random::Random;
-use crate::view::{IMMUTABLE, PENDING, SHARD_WORDS, issue};
+use crate::view::{ACTIVE, IMMUTABLE, PENDING, SHARD_WORDS, issue};
 
 /// Steps that are all accepted, one after the other, on a prepared state.
 struct Steps {
@@ -106,18 +106,33 @@ fn installs(random: &mut Random, shards: u64) -> Steps {
 
 /// Three pending replicas of each configuration inherit a full history from a wedged one, whose source is that before.
 fn inherits(random: &mut Random, shards: u64) -> Steps {
+    beginnings(random, shards, IMMUTABLE, Step::inherit)
+}
+
+/// The same replicas catch up from the active one of their own configuration.
+fn catch_ups(random: &mut Random, shards: u64) -> Steps {
+    beginnings(random, shards, ACTIVE, Step::catch_up)
+}
+
+/// Three pending replicas of each configuration begin from host 0, whose replicas have a mode and full histories.
+fn beginnings(
+    random: &mut Random,
+    shards: u64,
+    mode: u64,
+    begin: fn(u64, u64, u64, u64) -> Step,
+) -> Steps {
     let mut words = full(random, shards, 0);
     let mut steps = Vec::new();
     let shard = shards - 1;
     let block = &mut words[shard as usize * SHARD_WORDS + 64..][..2_048];
     for (j, replicas) in (0..).zip(block.chunks_exact_mut(256)) {
-        replicas[0] = IMMUTABLE;
+        replicas[0] = mode;
         if j > 0 {
             replicas[3] = 1;
             for host in 1..4 {
                 replicas[host as usize * 64..][..64].fill(0);
                 replicas[host as usize * 64] = PENDING;
-                steps.push(Step::inherit(shard, j + 1, host, 0));
+                steps.push(begin(shard, j + 1, host, 0));
             }
         }
     }
@@ -154,7 +169,7 @@ impl AsLog {
     }
 }
 
-fn cases(shards: u64) -> [(&'static str, Steps); 7] {
+fn cases(shards: u64) -> [(&'static str, Steps); 8] {
     let mut random = Random::new(2);
     [
         ("add, empty to 40 entries", adds(shards)),
@@ -164,6 +179,7 @@ fn cases(shards: u64) -> [(&'static str, Steps); 7] {
         ("wedge", wedges(&mut random, shards)),
         ("install", installs(&mut random, shards)),
         ("inherit, 56 entries", inherits(&mut random, shards)),
+        ("catch up, 56 entries", catch_ups(&mut random, shards)),
     ]
 }
 

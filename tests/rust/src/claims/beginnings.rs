@@ -1,4 +1,5 @@
-//! How replicas began: pending, and then by an accepted inherit from a source.
+//! How replicas began: pending, and then by an accepted inherit from a source, or by catching up from a peer that had
+//! begun before them.
 
 use std::collections::HashMap;
 
@@ -7,10 +8,21 @@ use crate::seat::Seat;
 use crate::step::Step;
 use crate::view::{ACTIVE, IMMUTABLE, PENDING, Replica, View};
 
+/// An accepted step, and the states before and after it.
+#[derive(Clone, Copy)]
+pub struct Change<'a> {
+    pub before: View<'a>,
+    pub now: View<'a>,
+    pub step: Step,
+}
+
 /// The host that an inherit named, and the words of its replica at that moment.
+#[derive(Clone)]
 struct Beginning {
     source: u64,
     words: Vec<u64>,
+    /// Catch-ups between that inherit and the replica: 0 where it inherited itself.
+    catch_ups: u64,
 }
 
 /// The replicas after index 1 that were seen, and how they began: nothing as long as they are pending.
@@ -20,14 +32,14 @@ pub struct Beginnings {
 }
 
 impl Beginnings {
-    /// The moment after an accepted step that changed the shard.
-    pub fn follow(&mut self, now: View, shard: u64, step: Step) -> Result<(), Violation> {
-        for replica in now.all_replicas(shard) {
+    /// The moment after a step that changed the shard.
+    pub fn follow(&mut self, change: Change, shard: u64) -> Result<(), Violation> {
+        for replica in change.now.all_replicas(shard) {
             let seat = Seat { shard, index: replica.index, host: replica.host };
             if replica.index > 1 {
-                self.see(now, seat, replica, step)?;
+                self.see(change, seat, replica)?;
             }
-            self.check(now, seat, replica)?;
+            self.check(change.now, seat, replica)?;
         }
         Ok(())
     }
@@ -36,37 +48,61 @@ impl Beginnings {
     pub fn trace(&self, seat: Seat) -> Vec<u64> {
         let mut hosts = Vec::new();
         let mut seat = seat;
-        while let Some(Some(Beginning { source, .. })) = self.seen.get(&seat) {
+        while let Some(Beginning { source, .. }) = self.get(seat) {
             hosts.push(*source);
             seat = Seat { index: seat.index - 1, host: *source, ..seat };
         }
         hosts
     }
 
+    /// How many catch-ups brought a replica the history that one inherited.
+    pub fn catch_ups(&self, seat: Seat) -> u64 {
+        self.get(seat).map_or(0, |beginning| beginning.catch_ups)
+    }
+
+    fn get(&self, seat: Seat) -> Option<&Beginning> {
+        self.seen.get(&seat)?.as_ref()
+    }
+
     /// Notes a replica that is pending, and how it began where it is so no longer.
-    fn see(
-        &mut self,
-        now: View,
-        seat: Seat,
-        replica: Replica,
-        step: Step,
-    ) -> Result<(), Violation> {
+    fn see(&mut self, change: Change, seat: Seat, replica: Replica) -> Result<(), Violation> {
         match (self.seen.get(&seat), replica.mode() == PENDING) {
             (None, true) => drop(self.seen.insert(seat, None)),
             (Some(None), false) => {
-                let beginning = beginning(now, seat, replica, step)?;
-                self.seen.insert(seat, Some(beginning));
+                let beginning = self.beginning(change, seat, replica);
+                self.seen.insert(seat, Some(beginning.ok_or(Violation::WrongBeginning)?));
             }
             (Some(None), true) | (Some(Some(_)), false) => (),
             // It was never pending, or is so again.
-            (None, false) | (Some(Some(_)), true) => return Err(Violation::NotInherited),
+            (None, false) | (Some(Some(_)), true) => return Err(Violation::WrongBeginning),
         }
         Ok(())
     }
 
+    /// The beginning of a replica that was pending until this step: as the source is now, or as the peer was before.
+    fn beginning(&self, change: Change, seat: Seat, replica: Replica) -> Option<Beginning> {
+        let Change { before, now, step } = change;
+        let Seat { shard, index, host } = seat;
+        let [.., other] = step.numbers;
+        let (from, beginning) = match step {
+            _ if step == Step::inherit(shard, index, host, other) => {
+                let source = now.replica(shard, index - 1, other)?;
+                let words = source.words().to_vec();
+                (source, Beginning { source: other, words, catch_ups: 0 })
+            }
+            _ if step == Step::catch_up(shard, index, host, other) => {
+                let begun = self.get(Seat { host: other, ..seat })?.clone();
+                let peer = before.replica(shard, index, other)?;
+                (peer, Beginning { catch_ups: begun.catch_ups + 1, ..begun })
+            }
+            _ => return None,
+        };
+        is_copy(replica, from).then_some(beginning)
+    }
+
     /// The origin is that of the beginning, and the source is as it was then.
     fn check(&self, now: View, seat: Seat, replica: Replica) -> Result<(), Violation> {
-        let Some(Some(Beginning { source, words })) = self.seen.get(&seat) else {
+        let Some(Beginning { source, words, .. }) = self.get(seat) else {
             return match replica.origin() {
                 0 => Ok(()),
                 _ => Err(Violation::OtherOrigin),
@@ -82,14 +118,8 @@ impl Beginnings {
     }
 }
 
-/// The beginning of a replica that was pending until this step.
-fn beginning(now: View, seat: Seat, replica: Replica, step: Step) -> Result<Beginning, Violation> {
-    let Seat { shard, index, host } = seat;
-    let [.., source] = step.numbers;
-    let from = now.replica(shard, index - 1, source).ok_or(Violation::NotInherited)?;
-    let copied = replica.history() == from.history() && replica.stable() == from.stable();
-    match step == Step::inherit(shard, index, host, source) && replica.mode() == ACTIVE && copied {
-        true => Ok(Beginning { source, words: from.words().to_vec() }),
-        false => Err(Violation::NotInherited),
-    }
+/// Whether a replica is active and has the history and stable length of another one. Its origin is checked apart.
+fn is_copy(replica: Replica, of: Replica) -> bool {
+    let alike = replica.history() == of.history() && replica.stable() == of.stable();
+    replica.mode() == ACTIVE && alike
 }

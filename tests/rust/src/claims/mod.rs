@@ -8,7 +8,8 @@
 //! - every configuration after the first is the first issue for its shard and index in its sequencer's stable history;
 //! - no history holds two issues for one shard and index, and no step is rejected with 22;
 //! - every replica after index 1 that is not pending became so by an accepted inherit, with the history and stable
-//!   length of the source, which its origin names ever since; the source is immutable and stays as it was.
+//!   length of the source, or by an accepted catch-up, with those of a peer that had begun before; its origin names that
+//!   source, or the one that the peer began from, ever since; the source is immutable and stays as it was.
 
 mod beginnings;
 mod reference;
@@ -18,7 +19,7 @@ use crate::rejection::Rejection;
 use crate::seat::Seat;
 use crate::step::Step;
 use crate::view::{Replica, View, is_issue_for, issue, issued_for};
-use beginnings::Beginnings;
+use beginnings::{Beginnings, Change};
 use reference::Reference;
 pub use violation::Violation;
 
@@ -61,9 +62,12 @@ impl Claims {
             return Err(Violation::EarlierIssue);
         }
         let now = View::new(words);
+        let mut begun = Ok(());
         for &shard in &changed {
-            keeps_replicas(View::new(&self.words), now, shard)?;
-            issues_once(View::new(&self.words), now, shard)?;
+            let before = View::new(&self.words);
+            keeps_replicas(before, now, shard)?;
+            issues_once(before, now, shard)?;
+            begun = begun.and(self.beginnings.follow(Change { before, now, step }, shard));
             self.follow(now, shard)?;
             self.remember(now, shard);
         }
@@ -72,7 +76,7 @@ impl Claims {
             self.check_issued(now, now.sequenced(shard))?;
         }
         // Last, so that the other claims are told first.
-        changed.iter().try_for_each(|&shard| self.beginnings.follow(now, shard, step))
+        begun
     }
 
     /// The shards with other words than at the last moment.
@@ -86,9 +90,14 @@ impl Claims {
         self.references[shard as usize].history()
     }
 
-    /// The hosts from which a replica's history came, nearest first, by the inherits of the run.
+    /// The hosts from which a replica's history came, nearest first, by the inherits and catch-ups of the run.
     pub fn trace(&self, seat: Seat) -> Vec<u64> {
         self.beginnings.trace(seat)
+    }
+
+    /// How many catch-ups brought a replica the history that one of its configuration inherited.
+    pub fn catch_ups(&self, seat: Seat) -> u64 {
+        self.beginnings.catch_ups(seat)
     }
 
     /// The reference shard accepts what became stable; then every stable prefix begins its history.

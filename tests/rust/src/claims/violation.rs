@@ -22,9 +22,10 @@ pub enum Violation {
     SecondIssue,
     /// A step was rejected because an earlier issue has its shard and index (22).
     EarlierIssue,
-    /// A replica did not begin pending, and then with the history and stable length of an accepted inherit's source.
-    NotInherited,
-    /// A replica's origin is not the host that it inherited from.
+    /// A replica did not begin pending, and then with the history and stable length of an accepted inherit's source, or
+    /// of an accepted catch-up's peer that had begun before.
+    WrongBeginning,
+    /// A replica's origin is not the host that it, or the peer that it caught up from, began from.
     OtherOrigin,
     /// The replica that an origin names is not immutable, or not as it was when it was inherited from.
     SourceChanged,

@@ -10,6 +10,7 @@ pub enum Kind {
     Wedge,
     Install,
     Inherit,
+    CatchUp,
 }
 
 impl Kind {
@@ -21,7 +22,8 @@ impl Kind {
             4 => Ok(Kind::Wedge),
             5 => Ok(Kind::Install),
             6 => Ok(Kind::Inherit),
-            7..=31 => Err(Rejection::KindKept),
+            7 => Ok(Kind::CatchUp),
+            8..=31 => Err(Rejection::KindKept),
             _ => Err(Rejection::KindUnknown),
         }
     }
@@ -30,7 +32,7 @@ impl Kind {
     pub fn used(self) -> usize {
         match self {
             Kind::Add | Kind::Adopt | Kind::Wedge => 3,
-            Kind::Learn | Kind::Install | Kind::Inherit => 4,
+            Kind::Learn | Kind::Install | Kind::Inherit | Kind::CatchUp => 4,
         }
     }
 }

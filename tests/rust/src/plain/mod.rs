@@ -4,6 +4,8 @@
 
 mod add;
 mod adopt;
+mod beginning;
+mod catch_up;
 mod configuration;
 mod csv;
 mod entry;

@@ -12,7 +12,7 @@ pub fn check(kind: Kind, [shard, index, c, d]: [u64; 4], shards: usize) -> Resul
         Kind::Adopt | Kind::Wedge => is_host(c) && d == 0,
         Kind::Learn => is_host(c) && d <= HISTORY as u64,
         Kind::Install => is_host(c) && d < HISTORY as u64,
-        Kind::Inherit => is_host(c) && is_host(d),
+        Kind::Inherit | Kind::CatchUp => is_host(c) && is_host(d),
     };
     match shard < shards as u64 && (1..=8).contains(&index) && rest {
         true => Ok(()),

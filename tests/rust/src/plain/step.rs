@@ -33,6 +33,7 @@ impl State<'_> {
             Kind::Wedge => self.wedge(shard, index, c),
             Kind::Install => self.install(shard, index, c, d as usize),
             Kind::Inherit => self.inherit(shard, index, c, d),
+            Kind::CatchUp => self.catch_up(shard, index, c, d),
         }
     }
 }

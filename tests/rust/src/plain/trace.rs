@@ -23,7 +23,7 @@ pub fn trace(words: &[u64], seat: Seat, out: &mut [u64]) -> Result<usize, Reject
     Ok(count)
 }
 
-/// The host of a configuration, counted from 0, that a replica of the next one inherited from.
+/// The host of a configuration, counted from 0, whose history a replica of the next one began with.
 struct Source {
     j: usize,
     host: u64,

@@ -2,17 +2,22 @@
 
 use std::fmt;
 
+use super::catch_ups::CatchUps;
 use crate::step::Step;
 use crate::view::{HISTORY, View};
 
+/// The kinds of steps, and 0 for all that are no kind.
+const KINDS: usize = 8;
+
 /// The rejections that a kind of step can get on a state of the right length and form.
-pub const REJECTIONS: [&[u64]; 7] = [
+pub const REJECTIONS: [&[u64]; KINDS] = [
     &[3, 4],
     &[7, 10, 12, 15, 16, 17, 23],
     &[7, 10, 11, 12, 13, 14],
     &[7, 10, 11, 12, 18, 19],
     &[7, 10, 11, 12],
     &[7, 10, 11, 20, 21, 22],
+    &[7, 10, 11, 12, 13],
     &[7, 10, 11, 12, 13],
 ];
 
@@ -26,8 +31,8 @@ const ANSWERS: usize = 24;
 pub struct Coverage {
     /// Steps tried, singly and in replays.
     pub steps: u64,
-    /// Answers by kind; kind 0 stands for all that are no kind.
-    pub kinds: [[u64; ANSWERS]; 7],
+    /// Answers by kind.
+    pub kinds: [[u64; ANSWERS]; KINDS],
     /// Answers of all calls.
     pub answers: [u64; ANSWERS],
     /// Replays by how they stopped: ended, spent, damaged.
@@ -42,17 +47,21 @@ pub struct Coverage {
     pub capped: u64,
     /// Learns that were rejected although all histories were long enough.
     pub unlike: u64,
+    pub catch_ups: CatchUps,
 }
 
 impl Coverage {
     /// Notes a tried step, its answer and the state that it left.
     pub fn step(&mut self, step: Step, answer: u64, after: &[u64]) {
-        let kind = usize::try_from(step.kind).map_or(0, |kind| if kind < 7 { kind } else { 0 });
+        let kind = usize::try_from(step.kind).ok().filter(|&kind| kind < KINDS).unwrap_or(0);
         self.steps += 1;
         self.kinds[kind][answer as usize] += 1;
         self.answer(answer);
         let view = View::new(after);
         self.shards[(view.shards() as usize).min(8)] += 1;
+        if step.kind == 7 {
+            self.catch_ups.note(step, answer, view);
+        }
         match answer {
             0 => self.accepted(step, view),
             19 => self.unlike += u64::from(all_long_enough(view, step)),
@@ -108,8 +117,8 @@ fn all_long_enough(view: View, step: Step) -> bool {
 
 impl fmt::Display for Coverage {
     fn fmt(&self, f: &mut fmt::Formatter<'_>) -> fmt::Result {
-        const NAMES: [&str; 7] =
-            ["no kind", "add", "adopt", "learn", "wedge", "install", "inherit"];
+        const NAMES: [&str; KINDS] =
+            ["no kind", "add", "adopt", "learn", "wedge", "install", "inherit", "catch up"];
         writeln!(f, "{} steps; by number of shards: {:?}", self.steps, &self.shards[2..])?;
         for (name, counts) in NAMES.iter().zip(&self.kinds) {
             writeln!(f, "  {name}: {}", Counts(counts))?;
@@ -118,7 +127,8 @@ impl fmt::Display for Coverage {
         writeln!(f, "  replays ended, spent, damaged: {:?}", self.stops)?;
         writeln!(f, "  installs of index 2 to 8: {:?}", &self.indices[2..])?;
         writeln!(f, "  histories filled: {}", self.full)?;
-        write!(f, "  adopts capped: {}, learns unlike: {}", self.capped, self.unlike)
+        writeln!(f, "  adopts capped: {}, learns unlike: {}", self.capped, self.unlike)?;
+        write!(f, "  {}", self.catch_ups)
     }
 }
 

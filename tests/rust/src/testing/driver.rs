@@ -16,6 +16,7 @@ use crate::claims::Claims;
 use crate::plain;
 use crate::proved::TRACE_HOSTS;
 use crate::seat::Seat;
+use crate::step::Step;
 use crate::view::{HISTORY, Replica, SHARD_WORDS, View};
 
 pub struct Driver<'a> {
@@ -162,7 +163,7 @@ impl<'a> Driver<'a> {
         }
     }
 
-    /// In a run a replica's trace is what the inherits of the run say.
+    /// In a run a replica's trace is what the inherits and catch-ups of the run say.
     fn look_at_trace(&mut self, seat: Seat) {
         let mut out = Twin::filled(TRACE_HOSTS, u64::MAX);
         let length = both::trace(&mut self.state, seat, &mut out, 1).expect("a replica");
@@ -186,5 +187,12 @@ fn note(coverage: &mut Coverage, claims: &mut Option<Claims>, tried: Tried, word
     if let Some(claims) = claims {
         let kept = claims.after_step(step, answer, words);
         assert_eq!(kept, Ok(()), "a claim after {step:?} with answer {answer}");
+        coverage.catch_ups.again += u64::from(caught_up_again(claims, step, answer));
     }
+}
+
+/// Whether a step is a catch-up whose peer had caught up itself.
+fn caught_up_again(claims: &Claims, step: Step, answer: u64) -> bool {
+    let [shard, index, _, host] = step.numbers;
+    step.kind == 7 && answer == 0 && claims.catch_ups(Seat { shard, index, host }) > 0
 }

@@ -18,7 +18,8 @@ pub fn likely(random: &mut Random, view: View, temper: &Temper) -> Step {
             2 => learn(random, view, shard),
             3 => wedge(random, view, shard),
             4 => install(random, view, shard),
-            _ => inherit(random, view, shard),
+            5 => inherit(random, view, shard),
+            _ => catch_up(random, view, shard),
         };
         if let Some(step) = step {
             return step;
@@ -114,11 +115,15 @@ fn adopt(random: &mut Random, view: View, shard: u64) -> Option<Step> {
     Some(Step::adopt(shard, index, host(random, view, shard, index, behind)?))
 }
 
-/// A learn of what all histories have; now and then of less or more, and of places where they are unlike.
+/// A learn of what all histories have; now and then of less or more, of places where they are unlike, or of what those
+/// have that are not pending.
 fn learn(random: &mut Random, view: View, shard: u64) -> Option<Step> {
     let index = index(random, view, shard);
-    let common = common_length(view, shard, index);
-    let shortest = shortest(view, shard, index);
+    let all = !random.chance(ANYHOW);
+    let replicas = view.replicas(shard, index).filter(|replica| all || replica.mode() != PENDING);
+    let histories: Vec<&[u64]> = replicas.map(|replica| replica.history()).collect();
+    let common = common_length(&histories)?;
+    let shortest = histories.iter().map(|history| history.len()).min()?;
     let can = |replica: Replica| is_active(replica) && replica.stable().len() < shortest;
     let host = host(random, view, shard, index, can)?;
     let stable = view.replica(shard, index, host)?.stable().len() as u64;
@@ -132,21 +137,14 @@ fn learn(random: &mut Random, view: View, shard: u64) -> Option<Step> {
     Some(Step::learn(shard, index, host, length))
 }
 
-/// How long all histories of a configuration are at least.
-fn shortest(view: View, shard: u64, index: u64) -> usize {
-    let lengths = view.replicas(shard, index).map(|replica| replica.history().len());
-    lengths.min().expect("a member")
-}
-
-/// How far all histories of a configuration are alike.
-fn common_length(view: View, shard: u64, index: u64) -> u64 {
-    let mut replicas = view.replicas(shard, index);
-    let first = replicas.next().expect("a member").history();
-    let common = replicas.fold(first.len(), |common, replica| {
-        let pairs = first.iter().zip(replica.history());
+/// How far histories are alike, if there are any.
+fn common_length(histories: &[&[u64]]) -> Option<u64> {
+    let (first, rest) = histories.split_first()?;
+    let common = rest.iter().fold(first.len(), |common, history| {
+        let pairs = first.iter().zip(*history);
         common.min(pairs.take_while(|(a, b)| a == b).count())
     });
-    common as u64
+    Some(common as u64)
 }
 
 /// An older replica mostly: a newest configuration without active replicas brings nothing forward.
@@ -183,12 +181,8 @@ fn install(random: &mut Random, view: View, shard: u64) -> Option<Step> {
 
 /// An inherit by a pending replica, or a wedge before it: of the only source, or of one more, which may be behind.
 fn inherit(random: &mut Random, view: View, shard: u64) -> Option<Step> {
-    let pending = view.all_replicas(shard).filter(|replica| replica.mode() == PENDING);
-    let pending: Vec<(u64, u64)> = pending.map(|replica| (replica.index, replica.host)).collect();
-    let Some((index, heir)) = random.pick_any(&pending) else {
-        let index = index(random, view, shard);
-        let heir = host(random, view, shard, index, |_| false)?;
-        return Some(Step::inherit(shard, index, heir, random.below(16)));
+    let Some((index, heir)) = pending(random, view, shard) else {
+        return anyhow(random, view, shard, Step::inherit);
     };
     let source = host(random, view, shard, index - 1, is_frozen);
     if source.is_none() || random.chance(25) {
@@ -196,4 +190,35 @@ fn inherit(random: &mut Random, view: View, shard: u64) -> Option<Step> {
         return Some(Step::wedge(shard, index - 1, host));
     }
     Some(Step::inherit(shard, index, heir, source?))
+}
+
+/// A catch-up by a pending replica from a peer, or now and then from any host.
+fn catch_up(random: &mut Random, view: View, shard: u64) -> Option<Step> {
+    let Some((index, heir)) = pending(random, view, shard) else {
+        return anyhow(random, view, shard, Step::catch_up);
+    };
+    let peer = match random.chance(ANYHOW) {
+        true => random.below(16),
+        false => host(random, view, shard, index, |peer| peer.mode() != PENDING)?,
+    };
+    Some(Step::catch_up(shard, index, heir, peer))
+}
+
+/// The index and host of a pending replica.
+fn pending(random: &mut Random, view: View, shard: u64) -> Option<(u64, u64)> {
+    let pending = view.all_replicas(shard).filter(|replica| replica.mode() == PENDING);
+    let pending: Vec<(u64, u64)> = pending.map(|replica| (replica.index, replica.host)).collect();
+    random.pick_any(&pending)
+}
+
+/// A step by which a pending replica would begin, now and then, where none is pending.
+fn anyhow(
+    random: &mut Random,
+    view: View,
+    shard: u64,
+    begin: fn(u64, u64, u64, u64) -> Step,
+) -> Option<Step> {
+    let index = index(random, view, shard);
+    let host = host(random, view, shard, index, |_| false)?;
+    Some(begin(shard, index, host, random.below(16)))
 }

@@ -1,13 +1,18 @@
 //! Logs, written here once more so that the writers can be compared with it.
 
+use std::ops::RangeInclusive;
+
 use super::random::Random;
 use crate::step::Step;
+
+/// The kinds of steps.
+pub const KINDS: RangeInclusive<u64> = 1..=7;
 
 /// How many of its numbers a kind uses.
 pub fn used(kind: u64) -> usize {
     match kind {
         1 | 2 | 4 => 3,
-        3 | 5 | 6 => 4,
+        3 | 5 | 6 | 7 => 4,
         _ => 0,
     }
 }
@@ -37,14 +42,14 @@ pub fn push_step(log: &mut Vec<u8>, step: Step) {
 /// Whether a step can stand in a log.
 pub fn is_writable(step: Step) -> bool {
     let (used, unused) = step.numbers.split_at(used(step.kind));
-    (1..=6).contains(&step.kind)
+    KINDS.contains(&step.kind)
         && used.iter().all(|&number| number < 1 << 35)
         && unused.iter().all(|&number| number == 0)
 }
 
 /// A step that can stand in a log, with numbers of mixed widths.
 pub fn writable_step(random: &mut Random) -> Step {
-    let kind = random.within(1..=6);
+    let kind = random.within(KINDS);
     let mut step = Step::new(kind, [0; 4]);
     for number in &mut step.numbers[..used(kind)] {
         *number = random.word() >> 29 >> random.below(35);

@@ -2,12 +2,14 @@
 
 mod asides;
 pub mod both;
+pub mod catch_ups;
 pub mod coverage;
 pub mod driver;
 mod likely;
 pub mod logs;
 pub mod plans;
 pub mod random;
+pub mod script;
 pub mod seats;
 pub mod settings;
 mod singly;

@@ -1,6 +1,7 @@
 //! Random steps.
 
 use super::likely::likely;
+use super::logs::KINDS;
 use super::plans::configuration;
 use super::random::Random;
 use super::temper::Temper;
@@ -22,7 +23,7 @@ pub fn any_step(random: &mut Random, view: View, temper: &Temper) -> Step {
 /// A step with any kind and numbers.
 pub fn arbitrary(random: &mut Random) -> Step {
     let kind = match random.chance(80) {
-        true => random.within(1..=6),
+        true => random.within(KINDS),
         false => odd_number(random),
     };
     let mut numbers = [odd_number(random), odd_number(random), odd_number(random), 0];

@@ -5,8 +5,8 @@ use super::random::Random;
 /// Weights and chances of one run.
 #[derive(Clone, Debug)]
 pub struct Temper {
-    /// Of the six kinds, for steps that are likely to be accepted.
-    pub kinds: [u64; 6],
+    /// Of the seven kinds, for steps that are likely to be accepted.
+    pub kinds: [u64; 7],
     /// In a hundred: steps with any numbers, and likely steps with one number disturbed.
     pub arbitrary: u64,
     pub disturbed: u64,
@@ -30,7 +30,7 @@ impl Temper {
 
     fn elastic(random: &mut Random) -> Temper {
         Temper {
-            kinds: [10, 25, 25, random.within(1..=3), 20, 20],
+            kinds: [10, 25, 25, random.within(1..=3), 20, 12, 8],
             arbitrary: random.below(6),
             disturbed: random.below(10),
             issues: random.within(60..=95),
@@ -41,7 +41,7 @@ impl Temper {
 
     fn filling(random: &mut Random) -> Temper {
         Temper {
-            kinds: [60, 25, 15, random.below(2), 4, 10],
+            kinds: [60, 25, 15, random.below(2), 4, 6, 4],
             arbitrary: random.below(10),
             disturbed: random.below(10),
             issues: random.below(10),
@@ -52,7 +52,7 @@ impl Temper {
 
     fn wild(random: &mut Random) -> Temper {
         Temper {
-            kinds: [20, 20, 20, 3, 15, 15],
+            kinds: [20, 20, 20, 3, 15, 10, 10],
             arbitrary: random.within(10..=60),
             disturbed: random.within(10..=40),
             issues: random.below(100),

@@ -29,10 +29,14 @@ pub enum Wrong {
     AdoptOrigin,
     /// Inherit copies the source's origin.
     InheritOrigin,
+    /// Catch up from a peer that is pending.
+    CatchUpPending,
+    /// Catch up without the peer's origin.
+    CatchUpOrigin,
 }
 
 impl Wrong {
-    pub const ALL: [Wrong; 9] = [
+    pub const ALL: [Wrong; 11] = [
         Wrong::AdoptLowers,
         Wrong::AdoptPending,
         Wrong::LearnMajority,
@@ -42,6 +46,8 @@ impl Wrong {
         Wrong::InheritActive,
         Wrong::AdoptOrigin,
         Wrong::InheritOrigin,
+        Wrong::CatchUpPending,
+        Wrong::CatchUpOrigin,
     ];
 
     /// The claims that the error can break first.
@@ -51,7 +57,10 @@ impl Wrong {
             Wrong::AddRival => &[Violation::SecondIssue],
             Wrong::InstallUnstable => &[Violation::NotFirstIssue],
             Wrong::InheritActive => &[Violation::SourceChanged],
-            Wrong::AdoptOrigin | Wrong::InheritOrigin => &[Violation::OtherOrigin],
+            Wrong::CatchUpPending => &[Violation::WrongBeginning],
+            Wrong::AdoptOrigin | Wrong::InheritOrigin | Wrong::CatchUpOrigin => {
+                &[Violation::OtherOrigin]
+            }
             Wrong::LearnMajority | Wrong::LearnSkipsPending => {
                 &[Violation::Disagrees, Violation::Shrinks, Violation::Twice]
             }
@@ -77,28 +86,24 @@ impl Wrong {
             (Wrong::InheritActive, 6, 13) => inherit_active(words, view, step),
             (Wrong::AdoptOrigin, 2, 0) => adopt_word(words, view, step, 3),
             (Wrong::InheritOrigin, 6, 0) => inherit_origin(words, view, step),
+            (Wrong::CatchUpPending, 7, 13) => catch_up_pending(words, view, step),
+            (Wrong::CatchUpOrigin, 7, 0) => catch_up_origin(words, view, step),
             _ => answer,
         }
     }
 }
 
-/// Where the words of a host's replica begin.
-fn place(view: View, shard: u64, index: u64, host: u64) -> usize {
-    let replica = view.hosts(shard, index).take_while(|&other| other != host).count();
-    shard as usize * SHARD_WORDS + 64 + (index as usize - 1) * 256 + replica * 64
-}
-
 /// Copies one more word of the orderer's replica.
 fn adopt_word(words: &mut [u64], view: View, step: Step, word: usize) -> u64 {
     let [shard, index, host, _] = step.numbers;
-    let orderer = place(view, shard, index, view.orderer(shard, index));
-    words[place(view, shard, index, host) + word] = words[orderer + word];
+    let orderer = view.place(shard, index, view.orderer(shard, index));
+    words[view.place(shard, index, host) + word] = words[orderer + word];
     0
 }
 
 fn adopt_pending(words: &mut [u64], view: View, step: Step) -> u64 {
     let [shard, index, host, _] = step.numbers;
-    let replica = &mut words[place(view, shard, index, host)..][..64];
+    let replica = &mut words[view.place(shard, index, host)..][..64];
     replica[1..3].fill(0);
     replica[8..].fill(0);
     0
@@ -125,14 +130,14 @@ fn learn(
     if !enough(alike, pending, count(&|_, _| true)) {
         return 19;
     }
-    words[place(view, shard, index, host) + 2] = length;
+    words[view.place(shard, index, host) + 2] = length;
     0
 }
 
 /// Adds the issue where there is room.
 fn add_rival(words: &mut [u64], view: View, step: Step) -> u64 {
     let [shard, index, entry, _] = step.numbers;
-    let replica = &mut words[place(view, shard, index, view.orderer(shard, index))..][..64];
+    let replica = &mut words[view.place(shard, index, view.orderer(shard, index))..][..64];
     let length = replica[1] as usize;
     if length == HISTORY {
         return 16;
@@ -171,8 +176,8 @@ fn inherit_active(words: &mut [u64], view: View, step: Step) -> u64 {
     let [shard, index, host, source] = step.numbers;
     match view.replica(shard, index - 1, source) {
         Some(replica) if replica.mode() == ACTIVE => {
-            let from = place(view, shard, index - 1, source);
-            let to = place(view, shard, index, host);
+            let from = view.place(shard, index - 1, source);
+            let to = view.place(shard, index, host);
             words.copy_within(from..from + 64, to);
             words[to + 3] = source + 1;
             0
@@ -183,7 +188,28 @@ fn inherit_active(words: &mut [u64], view: View, step: Step) -> u64 {
 
 fn inherit_origin(words: &mut [u64], view: View, step: Step) -> u64 {
     let [shard, index, host, source] = step.numbers;
-    let from = place(view, shard, index - 1, source);
-    words[place(view, shard, index, host) + 3] = words[from + 3];
+    let from = view.place(shard, index - 1, source);
+    words[view.place(shard, index, host) + 3] = words[from + 3];
+    0
+}
+
+/// Begins with the empty history of a pending peer. Its origin names some host of the configuration before whose replica
+/// is not pending, so that the state stays well-formed.
+fn catch_up_pending(words: &mut [u64], view: View, step: Step) -> u64 {
+    let [shard, index, host, peer] = step.numbers;
+    let mut before = view.replicas(shard, index - 1).filter(|replica| replica.mode() != PENDING);
+    match (view.replica(shard, index, peer), before.next()) {
+        (Some(_), Some(source)) => {
+            let to = view.place(shard, index, host);
+            (words[to], words[to + 3]) = (ACTIVE, source.host + 1);
+            0
+        }
+        _ => 13,
+    }
+}
+
+fn catch_up_origin(words: &mut [u64], view: View, step: Step) -> u64 {
+    let [shard, index, host, _] = step.numbers;
+    words[view.place(shard, index, host) + 3] = 0;
     0
 }

@@ -2,13 +2,14 @@
 use native.Mathlib.Omega.{arith}
 use Rattle.model.specs.declared.kind.Kind.the-variants.{Inherit}
 use Rattle.lookup.proofs.KindAnswers.{out-of-range}
-use Rattle.copy_steps.proofs.InheritSteps.{known, named, before, nowhere, not-pending, later, not-there, not-immutable, holds, done}
+use Rattle.copy_steps.proofs.Beginnings.{acting-host, nowhere, not-pending, later}
+use Rattle.copy_steps.proofs.InheritSteps.{inheriting, before, not-there, not-immutable, holds, done}
 use borrow.Author.Needs.{needs}
 use Rattle.copy_steps.proofs.inherit.inherit.Statement.{statement}
 use Rattle.copy_steps.proofs.inherit.inherit.Tie as tie
 
 are-numbers-requires : tie.Need-are-numbers-requires
-are-numbers-requires c κs = known
+are-numbers-requires c κs = inheriting .known
 
 returns : tie.Need-returns
 returns c = out-of-range Inherit (c .before .before .before .pre) _ _ (c .before .are-numbers .ensures) (c .if1 .taken)
@@ -16,7 +17,7 @@ returns c = out-of-range Inherit (c .before .before .before .pre) _ _ (c .before
 find-requires : tie.Need-find-requires
 find-requires c κs =
     let n = c .before .before in
-    named (n .before .before .pre) _ _ (n .are-numbers .ensures) (c .before .if1 .left)
+    acting-host inheriting (n .before .before .pre) _ _ (n .are-numbers .ensures) (c .before .if1 .left)
 
 same-length : tie.Need-same-length
 same-length c = search needs
@@ -25,7 +26,7 @@ returns-2 : tie.Need-returns-2
 returns-2 c =
     let f = c .before .before in
     let n = f .before .before .before in
-    nowhere (n .before .before .pre) _ _ (n .are-numbers .ensures) (f .before .before .if1 .left) (f .find .ensures .0) (c .if2 .taken)
+    nowhere inheriting (n .before .before .pre) _ _ (n .are-numbers .ensures) (f .before .before .if1 .left) (f .find .ensures .0) (c .if2 .taken)
 
 mul-if3 : tie.Need-mul-if3
 mul-if3 c = search needs
@@ -40,7 +41,7 @@ returns-3 : tie.Need-returns-3
 returns-3 c =
     let f = c .before .before .before .before in
     let n = f .before .before .before in
-    not-pending (n .before .before .pre) _ _ (n .are-numbers .ensures) (f .before .before .if1 .left) (f .find .ensures .0)
+    not-pending inheriting (n .before .before .pre) _ _ (n .are-numbers .ensures) (f .before .before .if1 .left) (f .find .ensures .0)
     (c .before .before .if2 .left) (c .if3 .taken)
 
 sub-find : tie.Need-sub-find
@@ -48,7 +49,7 @@ sub-find c =
     let i = c .before in
     let f = i .before .before .before .before in
     let n = f .before .before .before in
-    later (n .before .before .pre) _ _ (n .are-numbers .ensures) (f .before .before .if1 .left) (f .find .ensures .0)
+    later inheriting (n .before .before .pre) _ _ (n .are-numbers .ensures) (f .before .before .if1 .left) (f .find .ensures .0)
     (i .before .before .if2 .left) (i .if3 .left)
 
 find-requires-2 : tie.Need-find-requires-2

@@ -3,17 +3,21 @@ use Rattle.model.specs.Kinds.{kindOf}
 use Prim.Native.Nat.{ℕ, suc, _≤_, zero-le}
 use native.Mathlib.Nat.{le-of-suc-le-suc}
 use lib.Arith.{lt-of-le-ne}
-use mathlib.Core.Bool.{and-false}
+use mathlib.Core.Bool.{cond}
 use mathlib.Core.Path.{_≡_, sym}
-use borrow.Author.Tests.{le-leb, lt-leb, ne-eqb}
+use lib.Dec.{leb}
+use borrow.Author.Tests.{le-leb, lt-leb}
+use Rattle.model.specs.declared.kind.Kind.the-variants.{Kept, Unknown}
+use Rattle.model.proofs.RoundTrip.{late-kind}
 use Rattle.model.proofs.kind.Kind.of.Statement.{statement}
 use Rattle.model.proofs.kind.Kind.of.Tie as tie
 
--- a number that is none of 0 to 6 is 7 or more
-past-six : (n : ℕ) → (n ≡ 0 → ⊥) → (n ≡ 1 → ⊥) → (n ≡ 2 → ⊥) → (n ≡ 3 → ⊥) → (n ≡ 4 → ⊥) → (n ≡ 5 → ⊥) → (n ≡ 6 → ⊥) → 7 ≤ n
-past-six n a b c d e f g =
+-- a number that is none of 0 to 7 is kept or unknown
+past-seven : (n : ℕ) → (n ≡ 0 → ⊥) → (n ≡ 1 → ⊥) → (n ≡ 2 → ⊥) → (n ≡ 3 → ⊥) → (n ≡ 4 → ⊥) → (n ≡ 5 → ⊥) → (n ≡ 6 → ⊥) → (n ≡ 7 → ⊥)
+    → kindOf n ≡ cond (leb n 31) Kept Unknown
+past-seven n a b c d e f g i =
     let next : (m : ℕ) → m ≤ n → (n ≡ m → ⊥) → suc m ≤ n = λ m h k. lt-of-le-ne h (λ q. k (sym q)) in
-    next 6 (next 5 (next 4 (next 3 (next 2 (next 1 (next 0 zero-le a) b) c) d) e) f) g
+    late-kind n (next 7 (next 6 (next 5 (next 4 (next 3 (next 2 (next 1 (next 0 zero-le a) b) c) d) e) f) g) i)
 
 returns : tie.Need-returns
 unfolding kindOf
@@ -45,32 +49,22 @@ returns-7 c = simp (c .match .keys7)
 
 returns-8 : tie.Need-returns-8
 unfolding kindOf
-returns-8 c =
+returns-8 c = simp (c .match .keys8)
+
+returns-9 : tie.Need-returns-9
+returns-9 c =
     let r = c .before .match .rest in
-    simp (
-      ne-eqb _ _ (r .0 .0 .0 .0 .0 .0 .1),
-      ne-eqb _ _ (r .0 .0 .0 .0 .0 .1),
-      ne-eqb _ _ (r .0 .0 .0 .0 .1),
-      ne-eqb _ _ (r .0 .0 .0 .1),
-      ne-eqb _ _ (r .0 .0 .1),
-      ne-eqb _ _ (r .0 .1),
-      le-leb _ _ (past-six _ (r .1) (r .0 .0 .0 .0 .0 .0 .1) (r .0 .0 .0 .0 .0 .1) (r .0 .0 .0 .0 .1) (r .0 .0 .0 .1) (r .0 .0 .1) (r .0 .1)),
+    rw (
+      past-seven _ (r .1) (r .0 .0 .0 .0 .0 .0 .0 .1) (r .0 .0 .0 .0 .0 .0 .1) (r .0 .0 .0 .0 .0 .1) (r .0 .0 .0 .0 .1) (r .0 .0 .0 .1) (r .0 .0 .1) (r .0 .1),
       le-leb _ _ (le-of-suc-le-suc (c .if1 .taken)),
     )
 
-returns-9 : tie.Need-returns-9
-unfolding kindOf
-returns-9 c =
+returns-10 : tie.Need-returns-10
+returns-10 c =
     let r = c .before .match .rest in
-    simp (
-      ne-eqb _ _ (r .0 .0 .0 .0 .0 .0 .1),
-      ne-eqb _ _ (r .0 .0 .0 .0 .0 .1),
-      ne-eqb _ _ (r .0 .0 .0 .0 .1),
-      ne-eqb _ _ (r .0 .0 .0 .1),
-      ne-eqb _ _ (r .0 .0 .1),
-      ne-eqb _ _ (r .0 .1),
+    rw (
+      past-seven _ (r .1) (r .0 .0 .0 .0 .0 .0 .0 .1) (r .0 .0 .0 .0 .0 .0 .1) (r .0 .0 .0 .0 .0 .1) (r .0 .0 .0 .0 .1) (r .0 .0 .0 .1) (r .0 .0 .1) (r .0 .1),
       lt-leb _ _ (c .if1 .left),
-      and-false,
     )
 
 pub of-spec : {M : Type 1} → statement M
@@ -85,4 +79,5 @@ of-spec =
     returns-6
     returns-7
     returns-8
-    returns-9)
+    returns-9
+    returns-10)

@@ -53,6 +53,12 @@ enum-told-8 c = search needs
 row-requires-8 : tie.Need-row-requires-8
 row-requires-8 c κs = search needs
 
+enum-told-9 : tie.Need-enum-told-9
+enum-told-9 c = search needs
+
+row-requires-9 : tie.Need-row-requires-9
+row-requires-9 c κs = search needs
+
 returns : tie.Need-returns
 unfolding rulesOf kindRejection isKept isUnknown usedNumbers mostFourth namesHost
 returns c = rw (c .before .enum-told .given .1) (c .row .ensures)
@@ -85,6 +91,10 @@ returns-8 : tie.Need-returns-8
 unfolding rulesOf kindRejection isKept isUnknown usedNumbers mostFourth namesHost
 returns-8 c = rw (c .before .enum-told8 .given .1) (c .row8 .ensures)
 
+returns-9 : tie.Need-returns-9
+unfolding rulesOf kindRejection isKept isUnknown usedNumbers mostFourth namesHost
+returns-9 c = rw (c .before .enum-told9 .given .1) (c .row9 .ensures)
+
 pub rules-spec : {M : Type 1} → statement M
 rules-spec =
     tie.close
@@ -105,6 +115,8 @@ rules-spec =
     row-requires-7
     enum-told-8
     row-requires-8
+    enum-told-9
+    row-requires-9
     returns
     returns-2
     returns-3
@@ -112,4 +124,5 @@ rules-spec =
     returns-5
     returns-6
     returns-7
-    returns-8)
+    returns-8
+    returns-9)
