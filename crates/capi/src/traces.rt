@@ -1,4 +1,4 @@
-// Where a seat got its list: the boxes from which it and its sources inherited.
+// Where a seat got its list: the boxes from which it and its sources began.
 use histories::copy::copy;
 use histories::trace::MOST_HOSTS;
 ghost use mathlib.Core.Path.{_≡_};

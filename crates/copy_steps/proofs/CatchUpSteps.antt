@@ -2,7 +2,7 @@
 -- Assumes nothing.
 use Prim.Native.Nat.{ℕ, _+_}
 use mathlib.Core.Path.{_≡_, refl, ap, _∙_}
-use mathlib.Core.Bool.{Bool, true, false, not, _&&_}
+use mathlib.Core.Bool.{Bool, true, false, not}
 use mathlib.Core.List.{List}
 use lib.Dec.{eqb}
 use lib.ListN.{getD}
@@ -10,9 +10,8 @@ use borrow.Author.Tests.{eq-eqb, ne-eqb}
 use Rattle.model.specs.declared.kind.Kind.the-variants.{CatchUp}
 use Rattle.model.specs.Kinds.{isKept, isUnknown, namesHost}
 use Rattle.model.specs.Rules.{mostFourth}
-use Rattle.model.specs.Members.{hasMember}
-use Rattle.model.specs.Replicas.{isPending, caughtUp}
-use Rattle.model.specs.Layout.{members, replicaAt, putReplica}
+use Rattle.model.specs.Replicas.{caughtUp}
+use Rattle.model.specs.Layout.{isInstalled, replicaAt, putReplica}
 use Rattle.model.specs.Configuration.{replicaIn}
 use Rattle.model.specs.Steps.{areNumbers, kindChecks, kindEffect}
 use Rattle.model.specs.CatchUp.{isPeer, catchUpChecks, catchUpEffect}
@@ -21,14 +20,18 @@ use Rattle.lookup.specs.Ready.{ReadyHost, Placed, HoldsReplica}
 use Rattle.lookup.specs.Seats.{seatOf}
 use Rattle.lookup.specs.Kinds.{ReadyKind, kindAnswer, kindAfter}
 use Rattle.model.proofs.Fields.{stable-word, origin-word, pending-word}
-use Rattle.lookup.proofs.Seats.{At, at-found, words-at}
+use Rattle.lookup.proofs.Seats.{At, at-found, no-member, words-at}
 use Rattle.copy_steps.specs.Copies.{copied}
 use Rattle.copy_steps.proofs.Beginnings.{Beginning, other-host, not-other, begins}
-use Rattle.copy_steps.proofs.InheritSource.{seat-answer}
 
 pub catching-up : Beginning CatchUp isPeer
 unfolding isKept isUnknown namesHost mostFourth kindChecks catchUpChecks replicaIn
 catching-up = record { known = record { notKept = refl; known = refl }; acting = refl; fourth = refl; checks = λ w z j h g. refl }
+
+-- a host without a seat, which the function `find` returned as q, is no peer
+no-peer : (w : List ℕ) (z j g : ℕ) (q : Seat) → q ≡ seatOf w z j g → isInstalled w z j ≡ true → (q .answer ≡ 0 → ⊥) → isPeer w z j g ≡ false
+unfolding isPeer
+no-peer w z j g q e i n = rw (no-member w z j g q e i n)
 
 -- a host with a seat is a peer where that is not pending
 peer-word : {w : List ℕ} {z j g q : ℕ} → At w z j g q → isPeer w z j g ≡ not (eqb (getD w q 0) 1)
@@ -46,17 +49,8 @@ module _ {w : List ℕ} {n z j : ℕ} (p : ReadyKind w n z j) (h g : ℕ) {b : B
     at : At w z j h (r .place)
     at = at-found w z j h r s a
 
-    -- a host with no seat is no peer
-    no-peer : (q .answer ≡ 0 → ⊥) → isPeer w z j g ≡ false
-    unfolding isPeer
-    no-peer m = go (hasMember (members w z j) g) refl
-      where
-        go : (c : Bool) → hasMember (members w z j) g ≡ c → (c && not (isPending (replicaIn w z j g))) ≡ false
-        go true d = absurd (m (ap (λ (x : Seat). x .answer) t ∙ seat-answer w z j g (at .there) d))
-        go false d = refl
-
     pub not-there : (q .answer ≡ 0 → ⊥) → (13 ≡ kindAnswer CatchUp w z j h g) × (w ≡ kindAfter CatchUp w z j h g)
-    not-there m = not-other catching-up p h g test e s a pending (no-peer m)
+    not-there m = not-other catching-up p h g test e s a pending (no-peer w z j g q t (at .there) m)
 
     module _ (f : q .answer ≡ 0) where
       from : At w z j g (q .place)

@@ -14,11 +14,11 @@ use Rattle.lookup.specs.Ready.{ReadyHost}
 use Rattle.histories.specs.declared.trace.HostTrace.{HostTrace}
 use Rattle.histories.specs.Seats.{seatChecks}
 
--- the host from which the replica of host h in configuration j inherited: its word 3 is "the source box + 1"
+-- the host from which the replica of host h in configuration j began: its word 3 is "the source box + 1"
 unfoldable pub sourceHost : List ℕ → ℕ → ℕ → ℕ → ℕ
 sourceHost w z j h = replicaIn w z j h .origin - 1
 
--- "back to index 1, nearest first": that host, then the one from which its replica in the configuration before inherited, ..
+-- "back to index 1, nearest first": that host, then the one from which its replica in the configuration before began, ..
 unfoldable pub sourcesOf : List ℕ → ℕ → ℕ → ℕ → List ℕ
 sourcesOf w z zero h = []
 sourcesOf w z (suc j) h = sourceHost w z (suc j) h ∷ sourcesOf w z j (sourceHost w z (suc j) h)

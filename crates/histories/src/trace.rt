@@ -1,4 +1,4 @@
-// Where a replica got its history: the hosts from which it and its sources inherited, back to the first configuration.
+// Where a replica got its history: the hosts from which it and its sources began, back to the first configuration.
 use crate::seat::find_seat;
 use model::layout::ORIGIN;
 use model::layout::PENDING;

@@ -84,6 +84,15 @@ module _ (w : List ℕ) (z j h : ℕ) (r : Seat) (e : r ≡ seatOf w z j h) wher
   early rest n =
       ap (λ (s : Seat). s .answer) e ∙ seat-rejected w z j h rest (λ q. n (ap (λ (s : Seat). s .answer) e ∙ q))
 
+  -- in an installed configuration, a host without a seat is no member
+  pub no-member : isInstalled w z j ≡ true → (r .answer ≡ 0 → ⊥) → hasMember (members w z j) h ≡ false
+  unfolding seatOf
+  no-member i n = go (hasMember (members w z j) h) refl
+    where
+      go : (t : Bool) → hasMember (members w z j) h ≡ t → t ≡ false
+      go true m = absurd (n (ap (λ (s : Seat). s .answer) e ∙ rw (i, m)))
+      go false m = refl
+
 -- the words of a replica that was found are just its words
 pub words-at : {w : List ℕ} {z j h p : ℕ} → At w z j h p → Ready w z j → part w p ≡ replicaWords (replicaAt w p)
 words-at {w} {z} {j} {h} {p} a r = rw (sym (a .place-is)) (member-words r h (a .member))

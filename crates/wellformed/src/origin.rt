@@ -1,4 +1,4 @@
-// The origin of a replica, its word 3: the host of the configuration before from which it inherited, plus 1.
+// The origin of a replica, its word 3: the host of the configuration before from which it began, plus 1.
 use model::configuration::Configuration;
 use model::layout::CONFIGURATION_WORDS;
 use model::layout::HEAD_WORDS;

@@ -7,6 +7,9 @@ pub struct Step {
     pub numbers: [u64; 4],
 }
 
+/// The kind of a catch-up.
+const CATCH_UP: u64 = 7;
+
 impl Step {
     pub const fn new(kind: u64, numbers: [u64; 4]) -> Step {
         Step { kind, numbers }
@@ -44,6 +47,10 @@ impl Step {
 
     /// The pending replica takes over the history of a peer, a replica of its own configuration that is not pending.
     pub const fn catch_up(shard: u64, index: u64, host: u64, peer: u64) -> Step {
-        Step::new(7, [shard, index, host, peer])
+        Step::new(CATCH_UP, [shard, index, host, peer])
+    }
+
+    pub const fn is_catch_up(self) -> bool {
+        self.kind == CATCH_UP
     }
 }

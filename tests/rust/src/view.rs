@@ -1,6 +1,9 @@
 //! A well-formed state as it is read off its words. Shards count from 0, indices from 1, as in document 01.
 
 pub const SHARD_WORDS: usize = 2112;
+const HEAD_WORDS: usize = 64;
+const CONFIGURATION_WORDS: usize = 256;
+const REPLICA_WORDS: usize = 64;
 pub const HISTORY: usize = 56;
 pub const PENDING: u64 = 1;
 pub const ACTIVE: u64 = 2;
@@ -65,15 +68,15 @@ impl<'a> View<'a> {
 
     /// The replicas of an installed configuration.
     pub fn replicas(self, shard: u64, index: u64) -> impl Iterator<Item = Replica<'a>> {
-        let first = 64 + (index as usize - 1) * 256;
-        let parts = self.block(shard)[first..][..256].chunks_exact(64);
+        let block = &self.block(shard)[first_replica(index)..][..CONFIGURATION_WORDS];
+        let parts = block.chunks_exact(REPLICA_WORDS);
         self.hosts(shard, index).zip(parts).map(move |(host, words)| Replica { index, host, words })
     }
 
     /// Where the words of a member's replica begin.
     pub fn place(self, shard: u64, index: u64, host: u64) -> usize {
         let number = self.hosts(shard, index).take_while(|&other| other != host).count();
-        shard as usize * SHARD_WORDS + 64 + (index as usize - 1) * 256 + number * 64
+        shard as usize * SHARD_WORDS + first_replica(index) + number * REPLICA_WORDS
     }
 
     /// The replicas of all installed configurations of a shard.
@@ -122,6 +125,11 @@ impl<'a> Replica<'a> {
     pub fn words(self) -> &'a [u64] {
         self.words
     }
+}
+
+/// Where the replicas of an index begin in their shard.
+fn first_replica(index: u64) -> usize {
+    HEAD_WORDS + (index as usize - 1) * CONFIGURATION_WORDS
 }
 
 /// The word of an issue.

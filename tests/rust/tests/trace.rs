@@ -83,7 +83,7 @@ fn one_run(random: &mut Random, met: &mut Met) {
         let step = any_step(random, View::new(state.get()), &temper);
         let answer = both::step(&mut state, step);
         assert_eq!(claims.after_step(step, answer, state.get()), Ok(()));
-        if step.kind == 7 && answer == 0 {
+        if step.is_catch_up() && answer == 0 {
             met.compare(&mut state, step);
         }
         if moment % 100 == 0 {

@@ -105,7 +105,7 @@ fn mixed_log(random: &mut Random, state: &mut plain::State, temper: &Temper, ste
         if is_writable(step) {
             let accepted = state.step(step).is_ok();
             log.rejected += u64::from(!accepted);
-            log.caught_up += u64::from(accepted && step.kind == 7);
+            log.caught_up += u64::from(accepted && step.is_catch_up());
             push_step(&mut log.bytes, step);
             written += 1;
         }

@@ -59,7 +59,7 @@ impl Coverage {
         self.answer(answer);
         let view = View::new(after);
         self.shards[(view.shards() as usize).min(8)] += 1;
-        if step.kind == 7 {
+        if step.is_catch_up() {
             self.catch_ups.note(step, answer, view);
         }
         match answer {

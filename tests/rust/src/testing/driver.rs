@@ -194,5 +194,5 @@ fn note(coverage: &mut Coverage, claims: &mut Option<Claims>, tried: Tried, word
 /// Whether a step is a catch-up whose peer had caught up itself.
 fn caught_up_again(claims: &Claims, step: Step, answer: u64) -> bool {
     let [shard, index, _, host] = step.numbers;
-    step.kind == 7 && answer == 0 && claims.catch_ups(Seat { shard, index, host }) > 0
+    step.is_catch_up() && answer == 0 && claims.catch_ups(Seat { shard, index, host }) > 0
 }
