@@ -1,7 +1,7 @@
 -- Where a state's words are (document 01, "State": "Z blocks of 2,112 words, Z from 2 to 8 .. 64 head words, then 32 seats of 64 words").
 -- Configurations are counted from 0 here: configuration j has index j + 1.
-use Prim.Native.Nat.{ℕ, _+_, _*_, _/_}
-use mathlib.Core.Bool.{Bool, cond, _&&_}
+use Prim.Native.Nat.{ℕ, _+_, _*_}
+use mathlib.Core.Bool.{Bool, cond}
 use mathlib.Core.List.{List, _++_}
 use lib.Dec.{leb, ltb, eqb}
 use lib.ListN.{getD, take, drop, set}
@@ -20,10 +20,17 @@ configurationWords = 256
 abbrev pub partWords : ℕ
 partWords = 64
 
--- the Z of a length 2,112 × Z, Z from 2 to 8; 0 for any other length
+-- the Z of a state's length, 0 for a length that no state has; request A5: "only by comparing with the seven lengths that can occur".
+-- `Lengths.antt` says that it is the quotient by 2,112
 unfoldable pub shardsOf : ℕ → ℕ
 shardsOf n =
-    cond (eqb (n / shardWords * shardWords) n && leb 2 (n / shardWords) && leb (n / shardWords) 8) (n / shardWords) 0
+    cond (eqb n 4224) 2
+    (cond (eqb n 6336) 3
+    (cond (eqb n 8448) 4
+    (cond (eqb n 10560) 5
+    (cond (eqb n 12672) 6
+    (cond (eqb n 14784) 7
+    (cond (eqb n 16896) 8 0))))))
 
 -- rejection 1: "State length is no 2,112 × Z"
 unfoldable pub isStateLength : ℕ → Bool

@@ -1,4 +1,4 @@
--- What a reader has to believe: document 01, and the requests of document 02 that change it (A2, A3, A4), as definitions, and the claims that are
+-- What a reader has to believe: document 01, and the requests of document 02 that change it (A2 to A5), as definitions, and the claims that are
 -- proved of them.
 pub mod Tests
 pub mod Checks
@@ -8,6 +8,7 @@ pub mod Members
 pub mod Entries
 pub mod Replicas
 pub mod Layout
+pub mod Lengths
 pub mod Configuration
 pub mod Origins
 pub mod WellFormed

@@ -1,8 +1,11 @@
 //! The vectors, on both implementations.
 
 use penkwadar_tests::interface::{Interface, Plain, Proved};
+use penkwadar_tests::testing::length_vectors::{
+    HistoryVector, LengthVector, ReplayVector, SetupVector, length_vectors,
+};
 use penkwadar_tests::testing::vectors::{
-    csv_vectors, fnv, program_vectors, step_vectors, trace_vectors,
+    StepVector, csv_vectors, fnv, program_vectors, step_vectors, trace_vectors,
 };
 
 #[test]
@@ -45,14 +48,28 @@ fn proved_traces() {
     traces::<Proved>();
 }
 
+#[test]
+fn plain_lengths() {
+    lengths::<Plain>();
+}
+
+#[test]
+fn proved_lengths() {
+    lengths::<Proved>();
+}
+
 fn steps<I: Interface>() {
     let vectors = step_vectors();
     assert!(vectors.len() >= 2_540, "only {} vectors", vectors.len());
-    for (number, mut vector) in (1..).zip(vectors) {
-        let answer = I::step(&mut vector.words, vector.step);
-        assert_eq!(answer, vector.answer, "answer of vector {number}");
-        assert_eq!(fnv(&vector.words), vector.check, "state of vector {number}");
+    for (number, vector) in (1..).zip(vectors) {
+        step::<I>(number, vector);
     }
+}
+
+fn step<I: Interface>(number: u64, mut vector: StepVector) {
+    let answer = I::step(&mut vector.words, vector.step);
+    assert_eq!(answer, vector.answer, "answer of vector {number}");
+    assert_eq!(fnv(&vector.words), vector.check, "state of vector {number}");
 }
 
 fn programs<I: Interface>() {
@@ -91,6 +108,62 @@ fn traces<I: Interface>() {
         assert_eq!(answer, vector.answer, "answer of vector {number}");
         assert_eq!((hosts, count), expected, "hosts and count of vector {number}");
     }
+}
+
+fn lengths<I: Interface>() {
+    let vectors = length_vectors();
+    assert!(vectors.len() >= 400, "only {} vectors", vectors.len());
+    let [mut setups, mut steps, mut histories, mut replays] = [0; 4];
+    for (number, vector) in (1..).zip(vectors) {
+        match vector {
+            LengthVector::Setup(vector) => {
+                setup::<I>(number, vector);
+                setups += 1;
+            }
+            LengthVector::Step(vector) => {
+                step::<I>(number, vector);
+                steps += 1;
+            }
+            LengthVector::History(vector) => {
+                history::<I>(number, vector);
+                histories += 1;
+            }
+            LengthVector::Replay(vector) => {
+                replay::<I>(number, vector);
+                replays += 1;
+            }
+        }
+    }
+    let made = [setups, steps, histories, replays];
+    assert!(made.iter().all(|&calls| calls >= 90), "only {made:?} calls");
+}
+
+fn setup<I: Interface>(number: u64, vector: SetupVector) {
+    let before = unwritten(vector.state_len);
+    let mut words = before.clone();
+    let answer = I::setup(&mut words, &vector.plan);
+    assert_eq!(answer, vector.answer, "answer of vector {number}");
+    let expected = if answer == 0 { vector.state } else { before };
+    assert!(words == expected, "state of vector {number}");
+}
+
+fn history<I: Interface>(number: u64, vector: HistoryVector) {
+    let before = vector.words.clone();
+    let (mut history, mut count) = (unwritten(vector.out_len), unwritten(vector.count_len));
+    let expected = (begun(&history, &vector.history), begun(&count, &vector.count));
+    let answer = I::stable_history(&vector.words, vector.shard, &mut history, &mut count);
+    assert_eq!(answer, vector.answer, "answer of vector {number}");
+    assert_eq!((history, count), expected, "history and count of vector {number}");
+    assert!(vector.words == before, "state of vector {number}");
+}
+
+fn replay<I: Interface>(number: u64, mut vector: ReplayVector) {
+    let mut report = unwritten(vector.report_len);
+    let expected = begun(&report, &vector.report);
+    let answer = I::replay(&mut vector.words, &vector.log, vector.budget, &mut report);
+    assert_eq!(answer, vector.answer, "answer of vector {number}");
+    assert_eq!(report, expected, "report of vector {number}");
+    assert_eq!(fnv(&vector.words), vector.check, "state of vector {number}");
 }
 
 /// Every output is filled before the call; what is not expected to be written has to stay.

@@ -4,6 +4,7 @@ mod check;
 mod clock;
 mod codec;
 mod csv;
+mod lengths;
 mod replays;
 mod single;
 mod states;
@@ -16,7 +17,7 @@ use table::Table;
 /// A part of the benchmark: its name, and what measures it.
 type Part = (&'static str, fn() -> Vec<Table>);
 
-const PARTS: [Part; 7] = [
+const PARTS: [Part; 8] = [
     ("check", check::tables),
     ("steps", single::tables),
     ("codec", codec::tables),
@@ -24,6 +25,7 @@ const PARTS: [Part; 7] = [
     ("transcripts", transcripts::tables),
     ("csv", csv::tables),
     ("trace", trace::tables),
+    ("lengths", lengths::tables),
 ];
 
 /// Measures the named parts, or all where none is named, and prints Markdown.

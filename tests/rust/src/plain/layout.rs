@@ -36,7 +36,8 @@ pub const IMMUTABLE: u64 = 3;
 pub type Shard = [u64; SHARD_WORDS];
 pub type Replica = [u64; REPLICA_WORDS];
 
-/// How many shards a state of so many words has, if that is a state's length.
+/// How many shards a state of so many words has, if that is a state's length. It divides, and is to stay so: the proved
+/// side compares with the seven lengths, and the tests hold that against this.
 pub fn shard_count(words: usize) -> Option<usize> {
     let shards = words / SHARD_WORDS;
     (words.is_multiple_of(SHARD_WORDS) && SHARDS.contains(&shards)).then_some(shards)

@@ -5,6 +5,7 @@ pub mod both;
 pub mod catch_ups;
 pub mod coverage;
 pub mod driver;
+pub mod length_vectors;
 mod likely;
 pub mod logs;
 pub mod plans;

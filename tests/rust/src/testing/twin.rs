@@ -56,6 +56,15 @@ impl<T: Element> Twin<T> {
         self.before.copy_from_slice(&self.plain);
     }
 
+    /// Takes elements away at the end, on both sides alike.
+    pub fn shorten(&mut self, length: usize) {
+        assert!(length <= self.get().len(), "{length} elements are more than there are");
+        for side in [&mut self.plain, &mut self.proved, &mut self.before] {
+            side.truncate(GUARD + length);
+            side.extend([T::GUARD; GUARD]);
+        }
+    }
+
     /// Compares all elements after a call, guards too; a rejected call left them as they were.
     pub fn settle(&mut self, rejected: bool, call: &dyn Debug) {
         assert!(self.plain == self.proved, "unlike after {call:?}: {}", self.difference());

@@ -77,7 +77,7 @@ pub fn trace_vectors() -> Vec<TraceVector> {
 }
 
 /// The calls of a file in `tests/vectors`, one a line; the `README.md` there has the format.
-fn calls<V>(file: &str, call: fn(&mut Tokens) -> V) -> Vec<V> {
+pub(super) fn calls<V>(file: &str, call: fn(&mut Tokens) -> V) -> Vec<V> {
     let text = String::from_utf8(read(&root().join("tests/vectors").join(file))).expect("text");
     let vector = |line: &str| {
         let mut tokens = Tokens(line.split(' '));
@@ -152,29 +152,34 @@ fn step_vector(numbers: &mut Numbers) -> StepVector {
 }
 
 /// The words of a line.
-struct Tokens<'a>(std::str::Split<'a, char>);
+pub(super) struct Tokens<'a>(std::str::Split<'a, char>);
 
 impl<'a> Tokens<'a> {
-    fn next(&mut self) -> &'a str {
+    pub(super) fn next(&mut self) -> &'a str {
         self.0.next().expect("one more word in the line")
     }
 
-    fn expect(&mut self, word: &str) {
+    pub(super) fn expect(&mut self, word: &str) {
         assert_eq!(self.next(), word);
     }
 
-    fn number(&mut self) -> u64 {
+    pub(super) fn number(&mut self) -> u64 {
         self.next().parse().expect("a number")
     }
 
+    /// The length of something lent.
+    pub(super) fn length(&mut self) -> usize {
+        self.number() as usize
+    }
+
     /// How many, then those numbers.
-    fn words(&mut self) -> Vec<u64> {
+    pub(super) fn words(&mut self) -> Vec<u64> {
         (0..self.number()).map(|_| self.number()).collect()
     }
 
     /// A state: its length, then places and values of the words that are not 0.
-    fn state(&mut self) -> Vec<u64> {
-        let mut words = vec![0; self.number() as usize];
+    pub(super) fn state(&mut self) -> Vec<u64> {
+        let mut words = vec![0; self.length()];
         for _ in 0..self.number() {
             let place = self.number() as usize;
             words[place] = self.number();
@@ -183,7 +188,7 @@ impl<'a> Tokens<'a> {
     }
 
     /// The letter x and two hexadecimal digits for each byte.
-    fn bytes(&mut self) -> Vec<u8> {
+    pub(super) fn bytes(&mut self) -> Vec<u8> {
         let digits = self.next().strip_prefix('x').expect("bytes").as_bytes();
         let pairs = digits.chunks(2).map(|pair| std::str::from_utf8(pair).expect("digits"));
         pairs.map(|pair| u8::from_str_radix(pair, 16).expect("a byte")).collect()
@@ -193,7 +198,7 @@ impl<'a> Tokens<'a> {
 fn csv_vector(tokens: &mut Tokens) -> CsvVector {
     tokens.expect("csv");
     let words = tokens.state();
-    let (out_len, count_len) = (tokens.number() as usize, tokens.number() as usize);
+    let (out_len, count_len) = (tokens.length(), tokens.length());
     tokens.expect("=");
     let (answer, text, count) = (tokens.number(), tokens.bytes(), tokens.words());
     CsvVector { words, out_len, count_len, answer, text, count }
@@ -203,7 +208,7 @@ fn trace_vector(tokens: &mut Tokens) -> TraceVector {
     tokens.expect("trace");
     let words = tokens.state();
     let [shard, index, host] = [(); 3].map(|_| tokens.number());
-    let (out_len, count_len) = (tokens.number() as usize, tokens.number() as usize);
+    let (out_len, count_len) = (tokens.length(), tokens.length());
     tokens.expect("=");
     let (answer, hosts, count) = (tokens.number(), tokens.words(), tokens.words());
     let seat = Seat { shard, index, host };
