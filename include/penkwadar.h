@@ -19,7 +19,7 @@
  * WHAT IT NEEDS. The archive is for x86-64 with the System V calling convention, as `rt staticlib` builds it. It calls
  * memcpy, memmove and memset, which a program without a C library has to supply, and nothing else. It has no data of
  * its own: any threads may call it at the same time on distinct buffers. A call needs less than PENKWADAR_STACK_BYTES
- * of stack, and penkwadar_transcript less than PENKWADAR_TRANSCRIPT_STACK_BYTES. */
+ * of stack, and penkwadar_transcript less than PENKWADAR_TRANSCRIPT_STACK_BYTES. None of its instructions divides. */
 #ifndef PENKWADAR_H
 #define PENKWADAR_H
 

@@ -80,19 +80,22 @@ each-length Z l m =
 
 quotient-law : (n : ℕ) → shardsOf n ≡ quotientOf n
 unfolding quotientOf
-quotient-law n = go (eqb (q * shardWords) n && leb 2 q && leb q 8) refl
+quotient-law n = go fits refl
   where
     q : ℕ
     q = n / shardWords
 
+    fits : Bool
+    fits = eqb (q * shardWords) n && leb 2 q && leb q 8
+
     -- a length that has shards passes the three tests
-    no-shards : {Z : ℕ} → Counted n Z → (eqb (q * shardWords) n && leb 2 q && leb q 8) ≡ false → Z ≡ 0
+    no-shards : {Z : ℕ} → Counted n Z → fits ≡ false → Z ≡ 0
     no-shards (none e) d = e
     no-shards {Z} (some e l m) d =
         let h : q ≡ Z = omega arith in
         absurd (false≢true (sym d ∙ rw (h, eq-eqb (Z * shardWords) n (sym e), le-leb 2 Z l, le-leb Z 8 m)))
 
-    go : (b : Bool) → (eqb (q * shardWords) n && leb 2 q && leb q 8) ≡ b → shardsOf n ≡ cond b q 0
+    go : (b : Bool) → fits ≡ b → shardsOf n ≡ cond b q 0
     go true e =
         let p = all-pass (eqb (q * shardWords) n) (leb 2 q ∷ leb q 8 ∷ []) e in
         ap shardsOf (sym (eqb-true (q * shardWords) n (p .0))) ∙ each-length q (leb-true 2 q (p .1 .0)) (leb-true q 8 (p .1 .1 .0))
