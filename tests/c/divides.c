@@ -1,4 +1,5 @@
-/* Divisions of every sort, for tests/divisions: it has to find one in each function whose name begins with `divides`, and none in the others. */
+/* Divisions of every sort, for tests/divisions: it has to find one in each function whose name begins with `divides`,
+ * and none in the others. */
 #include <stdint.h>
 
 uint64_t divides_quotient(uint64_t a, uint64_t b) { return a / b; }

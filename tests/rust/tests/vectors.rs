@@ -5,7 +5,8 @@ use penkwadar_tests::testing::length_vectors::{
     HistoryVector, LengthVector, ReplayVector, SetupVector, length_vectors,
 };
 use penkwadar_tests::testing::vectors::{
-    StepVector, csv_vectors, fnv, program_vectors, step_vectors, trace_vectors,
+    CsvVector, Outputs, StepVector, TraceVector, csv_vectors, fnv, program_vectors, step_vectors,
+    trace_vectors,
 };
 
 #[test]
@@ -88,25 +89,20 @@ fn programs<I: Interface>() {
 fn csvs<I: Interface>() {
     let vectors = csv_vectors();
     assert!(vectors.len() >= 300, "only {} vectors", vectors.len());
-    for (number, vector) in (1..).zip(vectors) {
-        let mut text: Vec<u8> = (0..vector.out_len).map(|j| (170 + j) as u8).collect();
-        let mut count = unwritten(vector.count_len);
-        let expected = (begun(&text, &vector.text), begun(&count, &vector.count));
-        let answer = I::csv(&vector.words, &mut text, &mut count);
-        assert_eq!(answer, vector.answer, "answer of vector {number}");
-        assert!((text, count) == expected, "text and count of vector {number}");
+    for (number, CsvVector { words, outputs }) in (1..).zip(vectors) {
+        let text = unwritten(outputs.out_len).into_iter().map(|word| word as u8).collect();
+        read(number, &words, text, outputs, I::csv);
     }
 }
 
 fn traces<I: Interface>() {
     let vectors = trace_vectors();
     assert!(vectors.len() >= 240, "only {} vectors", vectors.len());
-    for (number, vector) in (1..).zip(vectors) {
-        let (mut hosts, mut count) = (unwritten(vector.out_len), unwritten(vector.count_len));
-        let expected = (begun(&hosts, &vector.hosts), begun(&count, &vector.count));
-        let answer = I::trace(&vector.words, vector.seat, &mut hosts, &mut count);
-        assert_eq!(answer, vector.answer, "answer of vector {number}");
-        assert_eq!((hosts, count), expected, "hosts and count of vector {number}");
+    for (number, TraceVector { words, seat, outputs }) in (1..).zip(vectors) {
+        let call = |words: &[u64], hosts: &mut [u64], count: &mut [u64]| {
+            I::trace(words, seat, hosts, count)
+        };
+        read(number, &words, unwritten(outputs.out_len), outputs, call);
     }
 }
 
@@ -147,14 +143,11 @@ fn setup<I: Interface>(number: u64, vector: SetupVector) {
     assert!(words == expected, "state of vector {number}");
 }
 
-fn history<I: Interface>(number: u64, vector: HistoryVector) {
-    let before = vector.words.clone();
-    let (mut history, mut count) = (unwritten(vector.out_len), unwritten(vector.count_len));
-    let expected = (begun(&history, &vector.history), begun(&count, &vector.count));
-    let answer = I::stable_history(&vector.words, vector.shard, &mut history, &mut count);
-    assert_eq!(answer, vector.answer, "answer of vector {number}");
-    assert_eq!((history, count), expected, "history and count of vector {number}");
-    assert!(vector.words == before, "state of vector {number}");
+fn history<I: Interface>(number: u64, HistoryVector { words, shard, outputs }: HistoryVector) {
+    let call = |words: &[u64], history: &mut [u64], count: &mut [u64]| {
+        I::stable_history(words, shard, history, count)
+    };
+    read(number, &words, unwritten(outputs.out_len), outputs, call);
 }
 
 fn replay<I: Interface>(number: u64, mut vector: ReplayVector) {
@@ -164,6 +157,22 @@ fn replay<I: Interface>(number: u64, mut vector: ReplayVector) {
     assert_eq!(answer, vector.answer, "answer of vector {number}");
     assert_eq!(report, expected, "report of vector {number}");
     assert_eq!(fnv(&vector.words), vector.check, "state of vector {number}");
+}
+
+/// Makes a call that reads a state and writes a list to `out`, and its count.
+fn read<T: Copy + PartialEq>(
+    number: u64,
+    words: &[u64],
+    mut out: Vec<T>,
+    outputs: Outputs<T>,
+    call: impl FnOnce(&[u64], &mut [T], &mut [u64]) -> u64,
+) {
+    let (before, mut count) = (words.to_vec(), unwritten(outputs.count_len));
+    let expected = (begun(&out, &outputs.out), begun(&count, &outputs.count));
+    let answer = call(words, &mut out, &mut count);
+    assert_eq!(answer, outputs.answer, "answer of vector {number}");
+    assert!((out, count) == expected, "outputs of vector {number}");
+    assert!(words == before, "state of vector {number}");
 }
 
 /// Every output is filled before the call; what is not expected to be written has to stay.

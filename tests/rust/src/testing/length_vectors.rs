@@ -1,6 +1,6 @@
 //! The vectors of the repository that are rich in lengths: calls of four functions on states that can and cannot be.
 
-use super::vectors::{StepVector, Tokens, calls};
+use super::vectors::{Outputs, StepVector, Tokens, calls};
 use crate::step::Step;
 
 /// One call, and what is expected.
@@ -23,12 +23,7 @@ pub struct SetupVector {
 pub struct HistoryVector {
     pub words: Vec<u64>,
     pub shard: u64,
-    pub out_len: usize,
-    pub count_len: usize,
-    pub answer: u64,
-    /// What is written at the start of the output, and of the count.
-    pub history: Vec<u64>,
-    pub count: Vec<u64>,
+    pub outputs: Outputs<u64>,
 }
 
 pub struct ReplayVector {
@@ -75,10 +70,7 @@ fn step_vector(tokens: &mut Tokens) -> StepVector {
 
 fn history_vector(tokens: &mut Tokens) -> HistoryVector {
     let (words, shard) = (tokens.state(), tokens.number());
-    let (out_len, count_len) = (tokens.length(), tokens.length());
-    tokens.expect("=");
-    let (answer, history, count) = (tokens.number(), tokens.words(), tokens.words());
-    HistoryVector { words, shard, out_len, count_len, answer, history, count }
+    HistoryVector { words, shard, outputs: tokens.outputs(Tokens::words) }
 }
 
 fn replay_vector(tokens: &mut Tokens) -> ReplayVector {

@@ -23,27 +23,27 @@ pub struct ProgramVector {
     pub output: Vec<u8>,
 }
 
-/// One call for a state's text for spreadsheets, and what is expected.
-pub struct CsvVector {
-    pub words: Vec<u64>,
+/// What a call that writes a list and its count is lent for them, and what is expected.
+pub struct Outputs<T> {
     pub out_len: usize,
     pub count_len: usize,
     pub answer: u64,
     /// What is written at the start of the output, and of the count.
-    pub text: Vec<u8>,
+    pub out: Vec<T>,
     pub count: Vec<u64>,
 }
 
-/// One call for where a replica got its history, and what is expected.
+/// One call for a state's text for spreadsheets.
+pub struct CsvVector {
+    pub words: Vec<u64>,
+    pub outputs: Outputs<u8>,
+}
+
+/// One call for where a replica got its history.
 pub struct TraceVector {
     pub words: Vec<u64>,
     pub seat: Seat,
-    pub out_len: usize,
-    pub count_len: usize,
-    pub answer: u64,
-    /// What is written at the start of the output, and of the count.
-    pub hosts: Vec<u64>,
-    pub count: Vec<u64>,
+    pub outputs: Outputs<u64>,
 }
 
 /// The single steps that `crates/step_vectors` runs in the gate too.
@@ -193,24 +193,25 @@ impl<'a> Tokens<'a> {
         let pairs = digits.chunks(2).map(|pair| std::str::from_utf8(pair).expect("digits"));
         pairs.map(|pair| u8::from_str_radix(pair, 16).expect("a byte")).collect()
     }
+
+    /// The lengths of an output and of its count, the answer, and what is written to both.
+    pub(super) fn outputs<T>(&mut self, elements: fn(&mut Self) -> Vec<T>) -> Outputs<T> {
+        let (out_len, count_len) = (self.length(), self.length());
+        self.expect("=");
+        let (answer, out, count) = (self.number(), elements(self), self.words());
+        Outputs { out_len, count_len, answer, out, count }
+    }
 }
 
 fn csv_vector(tokens: &mut Tokens) -> CsvVector {
     tokens.expect("csv");
-    let words = tokens.state();
-    let (out_len, count_len) = (tokens.length(), tokens.length());
-    tokens.expect("=");
-    let (answer, text, count) = (tokens.number(), tokens.bytes(), tokens.words());
-    CsvVector { words, out_len, count_len, answer, text, count }
+    CsvVector { words: tokens.state(), outputs: tokens.outputs(Tokens::bytes) }
 }
 
 fn trace_vector(tokens: &mut Tokens) -> TraceVector {
     tokens.expect("trace");
     let words = tokens.state();
     let [shard, index, host] = [(); 3].map(|_| tokens.number());
-    let (out_len, count_len) = (tokens.length(), tokens.length());
-    tokens.expect("=");
-    let (answer, hosts, count) = (tokens.number(), tokens.words(), tokens.words());
     let seat = Seat { shard, index, host };
-    TraceVector { words, seat, out_len, count_len, answer, hosts, count }
+    TraceVector { words, seat, outputs: tokens.outputs(Tokens::words) }
 }
