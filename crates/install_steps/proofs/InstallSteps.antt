@@ -14,7 +14,7 @@ use Rattle.model.specs.Kinds.{isKept, isUnknown, namesHost}
 use Rattle.model.specs.Rules.{Known, mostFourth}
 use Rattle.model.specs.Entries.{isIssue, isIssueFor, issueShard, issueIndex, issueMembers, issueOrderer}
 use Rattle.model.specs.Layout.{sequencer}
-use Rattle.model.specs.Install.{issuer, issuedAt, noneBefore, isStableIssue, installChecks, installNext, installEffect}
+use Rattle.model.specs.Install.{issuer, issuedAt, noneBefore, isStableIssue, isNewestWedged, installChecks, installNext, installEffect}
 use Rattle.model.specs.Steps.{areNumbers, kindChecks, kindEffect}
 use Rattle.model.proofs.Heads.{installed-word}
 use Rattle.model.proofs.Tests.{and-left, and-right}
@@ -105,12 +105,22 @@ module _ {w : List ℕ} {n z j : ℕ} (p : ReadyKind w n z j) (h q : ℕ) {b : B
             not-next m =
                 rejects Install p h q test e (simp (at .there, at .member, issued, index-is, installed-word, ne-eqb _ _ m)) (λ o. omega arith)
 
-            module _ (f : x ≡ getD w (z * 2112 + 1) 0 + 1) (fits : Placed w (r .place)) {u : Bool}
+            -- d is whether the newest configuration is wedged
+            pub not-wedged : x ≡ getD w (z * 2112 + 1) 0 + 1 → {d : Bool} → d ≡ isNewestWedged w z → not d ≡ true
+                → (24 ≡ kindAnswer Install w z j h q) × (w ≡ kindAfter Install w z j h q)
+            unfolding kindChecks installChecks firstOf
+            not-wedged f {d} tested m =
+                rejects Install p h q test e
+                (simp (at .there, at .member, issued, index-is, installed-word, eq-eqb _ _ f, sym tested ∙ not-true d m))
+                (λ o. omega arith)
+
+            module _ (f : x ≡ getD w (z * 2112 + 1) 0 + 1) {d : Bool} (tested : d ≡ isNewestWedged w z) (wedged : not d ≡ false)
+                (fits : Placed w (r .place)) {u : Bool}
                 (v : u ≡ issuedIn (issueShard (getD w (r .place + 8 + q) 0)) (issueIndex (getD w (r .place + 8 + q) 0))
                 (take (r .place + 8 + q - (r .place + 8)) (drop (r .place + 8) w))) where
               -- the last check, as the code makes it
-              fifth : noneBefore z x q (issuer w z j h .history) ≡ not u
-              fifth =
+              sixth : noneBefore z x q (issuer w z j h .history) ≡ not u
+              sixth =
                   let shard : issueShard (getD w (r .place + 8 + q) 0) ≡ z = eqb-true _ _ (issue-for g .1) in
                   rw (v, ← y, shard) (none-is named at x q l (fits .fits) few)
 
@@ -124,7 +134,8 @@ module _ {w : List ℕ} {n z j : ℕ} (p : ReadyKind w n z j) (h q : ℕ) {b : B
                     index-is,
                     installed-word,
                     eq-eqb _ _ f,
-                    fifth,
+                    sym tested ∙ not-false d wedged,
+                    sixth,
                   )
 
               pub earlier : u ≡ true → (22 ≡ kindAnswer Install w z j h q) × (w ≡ kindAfter Install w z j h q)

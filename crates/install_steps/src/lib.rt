@@ -2,6 +2,7 @@
 // and the step's numbers are in range.
 use crate::issues::is_issue_for;
 use crate::next::install_next;
+use crate::wedged::is_newest_wedged;
 use arguments::are_numbers;
 use lookup::Seat;
 use lookup::entries::is_issued;
@@ -19,6 +20,7 @@ ghost use Rattle.lookup.specs.Kinds.{ReadyKind, kindAnswer, kindAfter};
 
 mod issues;
 mod next;
+mod wedged;
 
 // The replica of a host in configuration j of the sequencer of shard z.
 fn issuer(state: &[u64], z: usize, j: usize, host: u64) -> Seat
@@ -29,7 +31,8 @@ fn issuer(state: &[u64], z: usize, j: usize, host: u64) -> Seat
     lookup::find(state, y, j, host)
 }
 
-// Installs what a place of the issuer's history has: 0 and the next configuration pending, or the rejection (10, 11, 20, 21, 22) and the state as it was.
+// Installs what a place of the issuer's history has: 0 and the next configuration pending, or the rejection (10, 11, 20, 21, 24, 22) and the state as it
+// was.
 pub fn install(state: &mut [u64], shards: usize, z: usize, j: usize, host: u64, place: u64) -> u64
     requires { ⌜ ReadyKind (now state) shards z j ⌝ }
     ensures { λ r. ⌜ r ≡ kindAnswer (Kind.Install) (now (state .entry)) z j host place ⌝ }
@@ -55,6 +58,9 @@ pub fn install(state: &mut [u64], shards: usize, z: usize, j: usize, host: u64, 
     let index = entry::issue_index(e);
     if index != state[z * SHARD_WORDS + INSTALLED] + 1 {
         return 21;
+    }
+    if !is_newest_wedged(state, z) {
+        return 24;
     }
     if is_issued(&state[from..at], e) {
         return 22;

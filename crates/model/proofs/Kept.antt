@@ -1,4 +1,5 @@
--- What a change of a state has to show besides well-formedness: the invariant of every shard, that nothing goes back, the issues, and where origins are from.
+-- What a change of a state has to show besides well-formedness: the invariant of every shard, that nothing goes back, the issues, that configurations
+-- before another are wedged, and where origins are from.
 -- Assumes nothing.
 use Prim.Native.Nat.{ℕ, suc, _+_, _<_}
 use native.Mathlib.Decide.{ℕ-discrete}
@@ -18,7 +19,7 @@ use Rattle.model.proofs.StateViews.{view, stable-grows}
 use Rattle.model.proofs.Issues.{first-stays, issue-not-zero}
 use Rattle.model.proofs.Forward.{Forward}
 use Rattle.model.proofs.WellFormed.{WellFormed, well-formed}
-use Rattle.model.proofs.Safe.{Safe, Issued}
+use Rattle.model.proofs.Safe.{Safe, Issued, Wedged}
 
 -- host g of configuration a of shard z is a source: a member whose replica, which the view shows at its number, is immutable
 pub record Source (w : List ℕ) (z a g : ℕ) : Type 0 where
@@ -39,6 +40,7 @@ pub record Kept (w : List ℕ) (offers : ℕ → List ℕ) (w′ : List ℕ) (of
   pub forward : Forward w w′
   pub inv : (z : ℕ) → z < shards w → Inv (view w′ z) (offers′ z)
   pub issues : (z j : ℕ) → z < shards w → suc j < installed w′ z → Issued w′ z j
+  pub wedges : (z j : ℕ) → z < shards w → suc j < installed w′ z → Wedged w′ z j
   pub origins : (z j k g : ℕ) → z < shards w → view w′ z j k .origin ≡ suc g → From w z j k (view w′ z j k) g
 
 -- a safe state is well-formed
@@ -88,3 +90,8 @@ issued-stays {w} {w′} {offers} {offers′} x f i z j h l =
 
     grown : Begins (stableHistory w (sequencer w z)) (stableHistory w′ (sequencer w z))
     grown = stable-grows w w′ (sequencer w z) (i (sequencer w z) y) (λ a b. f .prefixes (sequencer w z) a b y)
+
+-- a configuration that was wedged stays so
+pub wedged-stays : {w w′ : List ℕ} → Forward w w′ → (z j : ℕ) → z < shards w → Wedged w z j → Wedged w′ z j
+wedged-stays f z j h d =
+    record { number = d .number; isImmutable = rw (f .immutables z j (d .number) h (d .isImmutable)) (d .isImmutable) }

@@ -1,6 +1,6 @@
 -- Install on a safe state: the next configuration becomes pending, and is the first issue for its shard and index.
 -- Assumes nothing.
-use Prim.Native.Nat.{ℕ, suc, _+_, _*_, _≤_, _<_}
+use Prim.Native.Nat.{ℕ, suc, _+_, _-_, _*_, _≤_, _<_}
 use native.Mathlib.Nat.{le-of-eq, lt-of-lt-of-le}
 use native.Mathlib.Omega.{arith}
 use native.Mathlib.Decide.{ℕ-discrete, decLt}
@@ -9,14 +9,16 @@ use mathlib.Core.Bool.{true}
 use mathlib.Core.List.{List}
 use lib.Dec.{lit≤, lit<}
 use lib.ListN.{length, getD}
+use borrow.Author.Tests.{eqb-true}
 use Rattle.model.specs.Members.{size, replicaNumber, isConfiguration}
 use Rattle.model.specs.Entries.{issue, isIssue, issueIndex, issueShard, issueOrderer, issueMembers, names, firstIssue}
-use Rattle.model.specs.Replicas.{Replica, readReplica, stablePrefix, pending, unused}
-use Rattle.model.specs.Layout.{headWord, sequencer, installed, members, orderer, replicaAt}
-use Rattle.model.specs.Install.{issuer, issuedAt, noneBefore, installChecks, installNext, installEffect}
+use Rattle.model.specs.Replicas.{Replica, readReplica, stablePrefix, isImmutable, pending, unused}
+use Rattle.model.specs.Layout.{place, headWord, sequencer, installed, members, orderer, replicaAt}
+use Rattle.model.specs.Install.{issuer, issuedAt, noneBefore, isWedged, isNewestWedged, installChecks, installNext, installEffect}
 use Rattle.model.specs.StableHistory.{stableHistory}
 use Rattle.model.specs.Prefixes.{Begins}
 use Rattle.model.specs.OneList.{shards}
+use Rattle.model.proofs.Tests.{any-below}
 use Rattle.model.proofs.Checks.{AllPass}
 use Rattle.model.proofs.Parts.{read-words}
 use Rattle.model.proofs.Prefixes.{begins-refl, begins-getD}
@@ -31,12 +33,12 @@ use Rattle.model.proofs.Rivals.{names-own}
 use Rattle.model.proofs.Forward.{Forward}
 use Rattle.model.proofs.WellFormed.{size-of}
 use Rattle.model.proofs.WellFormedParts.{vacant-unused, part-vacant}
-use Rattle.model.proofs.WellFormedMembers.{configured}
+use Rattle.model.proofs.WellFormedMembers.{configured, size-few}
 use Rattle.model.proofs.InstallNext.{next-length, next-other, next-installed, next-members, next-orderer, next-pending, next-parts}
 use Rattle.model.proofs.WellFormedInstall.{old-vacant, issuer-proper, issue-proper, stable-issue, next-index}
 use Rattle.model.proofs.SeatedReplica.{member-view}
-use Rattle.model.proofs.Safe.{Safe, Issued}
-use Rattle.model.proofs.Kept.{From, stood, Kept, formed, each-shard, sequencer-below, inv-same, issued-stays}
+use Rattle.model.proofs.Safe.{Safe, Issued, Wedged}
+use Rattle.model.proofs.Kept.{From, stood, Kept, formed, each-shard, sequencer-below, inv-same, issued-stays, wedged-stays}
 
 -- one fact, or two others
 data Either (A B C : Type 0) : Type 0 where
@@ -184,8 +186,9 @@ module _ {w : List ℕ} {offers : ℕ → List ℕ} (x : Safe w offers) {z : ℕ
           omega arith)
       go (no d) (no q) = absurd (q (rw (old-word y 1 (lit< tt) (λ e. absurd (d e))) at l))
 
-  -- what is first issued in the sequencer's stable history is installed
-  module _ (i : firstIssue z (installed w z + 1) (stableHistory w (sequencer w z)) ≡ issue (installed w z + 1) z o m) where
+  -- what is first issued in the sequencer's stable history is installed, where the newest configuration is wedged
+  module _ (i : firstIssue z (installed w z + 1) (stableHistory w (sequencer w z)) ≡ issue (installed w z + 1) z o m)
+      (d : (a : ℕ) → suc a ≡ installed w z → Wedged w z a) where
     new-issue : (a : ℕ) → suc a ≡ n → Issued new z a
     unfolding members orderer new n
     new-issue a e =
@@ -206,15 +209,20 @@ module _ {w : List ℕ} {offers : ℕ → List ℕ} (x : Safe w offers) {z : ℕ
         grown = stable-grows w new (sequencer w z) (new-inv (sequencer w z) y) (λ a b. new-prefixes (sequencer w z) a b y)
 
     pub kept-next : Kept w offers (installNext w z m o) offers
-    unfolding new
+    unfolding new n
     kept-next =
         record {
           forward = new-forward;
           inv = new-inv;
           issues = λ y a h l. go y a h (old-or-new y a h l);
+          wedges = λ y a h l. wedged-stays new-forward y a h (before y a h (old-or-new y a h l));
           origins = new-origins;
         }
       where
+        before : (y a : ℕ) → y < shards w → Either (suc a < installed w y) (z ≡ y) (suc a ≡ n) → Wedged w y a
+        before y a h (one-way q) = x .wedges y a h q
+        before y a h (other-way e q) = subst (λ (k : ℕ). Wedged w k a) e (d a q)
+
         go : (y a : ℕ) → y < shards w → Either (suc a < installed w y) (z ≡ y) (suc a ≡ n) → Issued new y a
         go y a h (one-way q) = issued-stays x new-forward new-inv y a h q
         go y a h (other-way e q) = subst (λ (k : ℕ). Issued new k a) e (new-issue a q)
@@ -281,6 +289,22 @@ module _ {w : List ℕ} {offers : ℕ → List ℕ} (x : Safe w offers) {z j : �
           rw issuer-view
           (stable-begins w (sequencer w z) (x .inv (sequencer w z) (sequencer-below x z hz)) j issuer-number)
 
+  -- a replica of the newest configuration is immutable
+  newest-wedged : (a : ℕ) → suc a ≡ installed w z → Wedged w z a
+  unfolding installChecks isNewestWedged isWedged isImmutable
+  newest-wedged a e =
+      let newest : installed w z - 1 ≡ a = omega (arith, e) in
+      let tested : isNewestWedged w z ≡ true = search in
+      let few = size-few (formed x) hz below in
+      let found = any-below (size (members w z a)) (λ k. isImmutable (replicaAt w (place z a k))) (rw newest at tested) in
+      record {
+        number = found .number;
+        isImmutable = rw (view-in w z below (lt-of-lt-of-le (found .small) few)) (eqb-true _ 3 (found .passes));
+      }
+    where
+      below : a < 8
+      below = omega (arith, e, formed x .head z hz .most)
+
   pub kept-install : Kept w offers (installEffect w z j h p) offers
   unfolding installEffect entry
   kept-install =
@@ -289,3 +313,4 @@ module _ {w : List ℕ} {offers : ℕ → List ℕ} (x : Safe w offers) {z j : �
       (issueOrderer entry)
       (issue-proper (formed x) hz hj h p c .configuration)
       first-in-history
+      newest-wedged

@@ -3,7 +3,7 @@
 use Prim.Native.Nat.{ℕ, suc, _-_, _≤_, _<_}
 use native.Mathlib.Omega.{arith}
 use mathlib.Core.Path.{_≡_, refl, sym, ap, subst}
-use mathlib.Core.Bool.{Bool, true, false, not}
+use mathlib.Core.Bool.{true, false, not}
 use mathlib.Core.List.{List, [], _∷_}
 use lib.Dec.{ltb}
 use borrow.Author.Tests.{ltb-true, eqb-true, eqb-false, not-true}
@@ -12,7 +12,7 @@ use lib.ListN.{length, take, length-append}
 use Rattle.model.specs.Tests.{contains}
 use Rattle.model.specs.Members.{size, hasMember, replicaNumber}
 use Rattle.model.specs.Replicas.{Replica, unused, isActive, isPending, isImmutable, added, adopted, learned, wedged, inherited, caughtUp}
-use Rattle.model.specs.Layout.{place, part, installed, isInstalled, members, orderer, putReplica, replicaAt}
+use Rattle.model.specs.Layout.{place, installed, isInstalled, members, orderer, putReplica}
 use Rattle.model.specs.Configuration.{configuration, replicaPlace, replicaOf, replicaIn}
 use Rattle.model.specs.Add.{ordererPlace, ordererReplica, noRival, addChecks, addEffect}
 use Rattle.model.specs.Adopt.{adoptChecks, adoptEffect}
@@ -20,7 +20,6 @@ use Rattle.model.specs.Learn.{alike, allAlike, learnChecks, learnEffect}
 use Rattle.model.specs.Wedge.{wedgeChecks, wedgeEffect}
 use Rattle.model.specs.Inherit.{source, isSource, inheritChecks, inheritEffect}
 use Rattle.model.specs.CatchUp.{isPeer, catchUpChecks, catchUpEffect}
-use Rattle.model.specs.WellFormed.{isPart}
 use Rattle.model.specs.Prefixes.{Begins}
 use Rattle.model.specs.OneList.{shards}
 use Rattle.model.proofs.Tests.{and-left, and-right}
@@ -32,8 +31,7 @@ use Rattle.model.proofs.Histories.{Wider, wider-refl}
 use Rattle.model.proofs.Moves.{Move}
 use Rattle.model.proofs.KindMoves.{add-move, adopt-move, learn-move, wedge-move, inherit-move, catch-up-move}
 use Rattle.model.proofs.StateViews.{view, view-in, InView, inside, outside, in-view}
-use Rattle.model.proofs.WellFormedParts.{part-vacant}
-use Rattle.model.proofs.WellFormedMembers.{orderer-is-member, member-proper}
+use Rattle.model.proofs.WellFormedMembers.{orderer-is-member, number-in-use, member-proper}
 use Rattle.model.proofs.SeatedReplica.{number-small, member-view}
 use Rattle.model.proofs.Safe.{Safe}
 use Rattle.model.proofs.ProperReplicas.{active-mode, pending-mode}
@@ -45,11 +43,6 @@ use Rattle.model.proofs.KeptPut.{kept-put}
 immutable-mode : (r : Replica) → isImmutable r ≡ true → r .mode ≡ 3
 unfolding isImmutable
 immutable-mode r e = eqb-true (r .mode) 3 e
-
--- words that are no member's have no mode
-vacant-mode : (Z j : ℕ) (w : List ℕ) (at : ℕ) → isPart Z j false (part w at) ≡ true → replicaAt w at .mode ≡ 0
-unfolding replicaAt
-vacant-mode Z j w at e = part-vacant Z j (part w at) e .mode-none
 
 added-short : (e : ℕ) (r : Replica) → length (r .history) < 56 → length (added e r .history) ≤ 56
 unfolding added
@@ -93,13 +86,8 @@ module _ {w : List ℕ} {offers : ℕ → List ℕ} (x : Safe w offers) {z j : �
   unfolding unused
   in-use k l = go (in-view w z j k)
     where
-      test : (b : Bool) → ltb k (size (members w z j)) ≡ b → k < 4 → view w z j k ≡ replicaAt w (place z j k)
-          → isPart (shards w) j b (part w (place z j k)) ≡ true → (k < size (members w z j)) × (k < 4)
-      test true e hk q p = (ltb-true k (size (members w z j)) e, hk)
-      test false e hk q p = absurd (omega (arith, ap (λ (r : Replica). r .mode) q, vacant-mode (shards w) j w (place z j k) p))
-
       go : InView w z j k → (k < size (members w z j)) × (k < 4)
-      go (inside a b e) = test (ltb k (size (members w z j))) refl b e (formed x .parts z j k hz hj b)
+      go (inside a b e) = (number-in-use (formed x) hz hj b (rw e at l), b)
       go (outside n e) = absurd (omega (arith, ap (λ (r : Replica). r .mode) (e w)))
 
   -- a member's replica that is not pending has a history

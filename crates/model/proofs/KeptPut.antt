@@ -20,7 +20,7 @@ use Rattle.model.proofs.StateViews.{view, view-in, InView, inside, outs
 use Rattle.model.proofs.Forward.{Forward}
 use Rattle.model.proofs.WellFormed.{size-of}
 use Rattle.model.proofs.Safe.{Safe}
-use Rattle.model.proofs.Kept.{From, stood, Kept, formed, each-shard, inv-same, issued-stays}
+use Rattle.model.proofs.Kept.{From, stood, Kept, formed, each-shard, inv-same, issued-stays, wedged-stays}
 
 module _ {w : List ℕ} {offers offers′ : ℕ → List ℕ} (x : Safe w offers) {z j k : ℕ} (hz : z < shards w) (hj : j < 8) (hk : k < 4)
     (r : Replica) (few : length (r .history) ≤ 56) (wide : (a : ℕ) → Wider (offers a) (offers′ a)) (m : Move (view w z) (offers′ z) j k r)
@@ -103,5 +103,6 @@ module _ {w : List ℕ} {offers offers′ : ℕ → List ℕ} (x : Safe w offers
         inv = new-inv;
         issues = λ y a h l.
             issued-stays x new-forward new-inv y a h (rw (installed-put w long hz hj hk r few y) at l);
+        wedges = λ y a h l. wedged-stays new-forward y a h (x .wedges y a h (rw (installed-put w long hz hj hk r few y) at l));
         origins = new-origins;
       }

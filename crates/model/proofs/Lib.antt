@@ -58,6 +58,7 @@ pub mod Moments
 pub mod OneList
 pub mod OneIssue
 pub mod Sources
+pub mod WedgedFirst
 pub mod StableGrowth
 pub mod Appointed
 -- The log

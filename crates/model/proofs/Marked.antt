@@ -1,7 +1,7 @@
 -- The proof of `specs/Marked.antt`: setup's state is well-formed, so every row computes.
 use mathlib.Core.Path.{_≡_, refl, _∙_}
 use lib.Count.{ones}
-use Rattle.model.specs.Tests.{allBelow, allOf, concatBelow, contains}
+use Rattle.model.specs.Tests.{allBelow, anyBelow, allOf, concatBelow, contains}
 use Rattle.model.specs.Checks.{firstOf}
 use Rattle.model.specs.Kinds.{kindOf, isKept, isUnknown, usedNumbers}
 use Rattle.model.specs.Entries.{isTake, issue, isIssue, issueShard, issueIndex, issueOrderer, issueMembers, isProperIssue, isEntry}
@@ -16,7 +16,8 @@ use Rattle.model.specs.Add.{ordererPlace, ordererReplica, mayIssue, noRi
 use Rattle.model.specs.Adopt.{adoptChecks, adoptEffect}
 use Rattle.model.specs.Learn.{alike, allAlike, learnChecks, learnEffect}
 use Rattle.model.specs.Wedge.{wedgeChecks, wedgeEffect}
-use Rattle.model.specs.Install.{issuer, issuedAt, isStableIssue, noneBefore, installChecks, putPending, installNext, installEffect}
+use Rattle.model.specs.Install.{issuer, issuedAt, isStableIssue, noneBefore, isWedged, isNewestWedged, installChecks, putPending, installNext}
+use Rattle.model.specs.Install.{installEffect}
 use Rattle.model.specs.Inherit.{source, isSource, inheritChecks}
 use Rattle.model.specs.Steps.{shardOf, configurationOf, areNumbers, inRange, kindChecks, kindEffect, effect}
 use Rattle.model.specs.Numbers.{withLower, readGroups, readNumber, withFirst, afterFirst, readNumbers}
@@ -43,12 +44,12 @@ unfolding MarkedCases marked Computes takesUpTo nextIssue issue
     replicaWords readReplica fresh unused pending isActive isPending isImmutable added adopted learned wedged
     quickAnswers quickRejection quickAfter firstOf kindOf isKept isUnknown shardOf configurationOf inRange areNumbers kindChecks effect kindEffect
     isEntry isTake isProperIssue isIssue isIssueFor issueIndex issueShard issueOrderer issueMembers rivals
-    isConfiguration isMemberSet isHost hasMember ones contains allBelow allOf
+    isConfiguration isMemberSet isHost hasMember ones contains allBelow anyBelow allOf
     headWord headPlace sequencer installed isInstalled members orderer putHead
     configuration place replicaPlace replicaNumber replicaOf replicaAt part putReplica
     ordererPlace ordererReplica mayIssue noRival addChecks addEffect adoptChecks adoptEffect
     alike allAlike learnChecks learnEffect wedgeChecks wedgeEffect
-    issuer issuedAt isStableIssue noneBefore installChecks installEffect installNext putPending source isSource inheritChecks
+    issuer issuedAt isStableIssue noneBefore isWedged isNewestWedged installChecks installEffect installNext putPending source isSource inheritChecks
     readStep readNumber readGroups withLower readNumbers afterFirst withFirst afterKind afterNumbers usedNumbers stepOf
 marked-cases =
     next (computed _ refl)

@@ -23,7 +23,7 @@ offersAt ms choice n z = beforeAccepting z (choice z) ms n .offered
 -- the same offers, shard by shard
 safe-as : {w : List ℕ} {o o′ : ℕ → List ℕ} → ((z : ℕ) → o′ z ≡ o z) → Safe w o → Safe w o′
 safe-as e x =
-    record { several = x .several; formed = x .formed; inv = λ z h. rw (e z) (x .inv z h); issues = x .issues }
+    record { several = x .several; formed = x .formed; inv = λ z h. rw (e z) (x .inv z h); issues = x .issues; wedges = x .wedges }
 
 -- from one moment to the next
 record Onward (ms : List Moment) (choice : ℕ → ℕ → List ℕ) (n : ℕ) (u u′ : List ℕ) : Type 0 where

@@ -9,7 +9,7 @@ use lib.Count.{ones}
 use lib.ListN.{length}
 use lib.Seq.{length-sets}
 use Rattle.model.specs.declared.step.Step.{Step}
-use Rattle.model.specs.Tests.{allBelow, allOf, concatBelow, contains}
+use Rattle.model.specs.Tests.{allBelow, anyBelow, allOf, concatBelow, contains}
 use Rattle.model.specs.Checks.{firstOf}
 use Rattle.model.specs.Kinds.{kindOf, isKept, isUnknown, usedNumbers}
 use Rattle.model.specs.Entries.{isTake, issue, isIssue, issueShard, issueIndex, issueOrderer, issueMembers, isProperIssue, isEntry}
@@ -27,7 +27,8 @@ use Rattle.model.specs.Add.{ordererPlace, ordererReplica, mayIssue, noRi
 use Rattle.model.specs.Adopt.{adoptChecks, adoptEffect}
 use Rattle.model.specs.Learn.{alike, allAlike, learnChecks, learnEffect}
 use Rattle.model.specs.Wedge.{wedgeChecks, wedgeEffect}
-use Rattle.model.specs.Install.{issuer, issuedAt, isStableIssue, noneBefore, installChecks, putPending, installNext, installEffect}
+use Rattle.model.specs.Install.{issuer, issuedAt, isStableIssue, noneBefore, isWedged, isNewestWedged, installChecks, putPending, installNext}
+use Rattle.model.specs.Install.{installEffect}
 use Rattle.model.specs.Inherit.{source, isSource, inheritChecks, inheritEffect}
 use Rattle.model.specs.CatchUp.{isPeer, catchUpChecks, catchUpEffect}
 use Rattle.model.specs.Steps.{shardOf, configurationOf, areNumbers, inRange, kindChecks, kindEffect, stepChecks, rejection, effect}
@@ -38,7 +39,7 @@ use Rattle.model.specs.Results.{readingNumber, readingStep, readingNext,
 use Rattle.model.specs.Results.{stopNumber, stopCode, replayNumber, replayCode, replayBytes}
 use Rattle.model.specs.Replay.{afterAll, replayRejection, replayed, rejectedIn}
 use Rattle.model.specs.Marked.{add, adopt, learn, wedge, install, inherit, catchUp, takesUpTo, nextIssue}
-use Rattle.model.specs.OwnCases.{tried, changed, reported, tooShort, illFormed, borrowed, oneTake, replaced, goneOn, twoSources, caughtUpAfter}
+use Rattle.model.specs.OwnCases.{tried, changed, reported, tooShort, illFormed, borrowed, oneTake, confirmed, replaced, goneOn, twoSources, caughtUpAfter}
 use Rattle.model.specs.OwnCases.{rivalIssue, laterIssue, otherIssue, unmarked, twoIssues, heads}
 use Rattle.model.specs.OwnCases.{Effects, StepOrder, KindOrders, ReaderOrder, WriterOrder, ReplayOrder, OwnCases}
 use Rattle.model.proofs.WellFormed.{WellFormed, well-formed}
@@ -149,17 +150,19 @@ on-two-issues s e = quick-rejection two-issues-formed s ∙ e
 
 -- what steps leave, and the orders of the kinds: rows that compute by the same definitions
 by-kinds : Effects × KindOrders
-unfolding oneTake replaced goneOn twoSources caughtUpAfter heads takesUpTo nextIssue rivalIssue laterIssue otherIssue unmarked twoIssues borrowed changed issue
+unfolding oneTake confirmed replaced goneOn twoSources caughtUpAfter heads takesUpTo nextIssue rivalIssue laterIssue otherIssue unmarked twoIssues borrowed
+    changed issue
     programStart initialState programPlan planSequencer planMembers planOrderer concatBelow initialShard initialHead initialReplica
     replicaWords readReplica fresh unused pending isActive isPending isImmutable added adopted learned wedged inherited caughtUp
     quickAnswers quickAfterAll quickRejection quickAfter firstOf kindOf isKept isUnknown shardOf configurationOf inRange areNumbers kindChecks effect kindEffect
     isEntry isTake isProperIssue isIssue isIssueFor issueIndex issueShard issueOrderer issueMembers names rivals
-    isConfiguration isMemberSet isHost hasMember ones contains allBelow allOf
+    isConfiguration isMemberSet isHost hasMember ones contains allBelow anyBelow allOf
     headWord headPlace sequencer installed isInstalled members orderer putHead
     configuration place replicaPlace replicaNumber replicaOf replicaAt part putReplica
     ordererPlace ordererReplica mayIssue noRival addChecks addEffect adoptChecks adoptEffect
     alike allAlike learnChecks learnEffect wedgeChecks wedgeEffect
-    issuer issuedAt isStableIssue noneBefore installChecks installEffect installNext putPending source isSource inheritChecks inheritEffect
+    issuer issuedAt isStableIssue noneBefore isWedged isNewestWedged installChecks installEffect installNext putPending
+    source isSource inheritChecks inheritEffect
     replicaIn isPeer catchUpChecks catchUpEffect
 by-kinds = (
   record {
@@ -191,8 +194,12 @@ by-kinds = (
       from-start _ refl,
       from-start _ refl,
       from-start _ refl,
+      from-start _ refl,
       quick-answers two-issues-formed _ ∙ refl,
-      on-two-issues _ refl,
+      quick-answers two-issues-formed _ ∙ refl,
+      from-start _ refl,
+      from-start _ refl,
+      from-start _ refl,
     );
     inherits = (from-start _ refl, from-start _ refl, from-start _ refl);
     catchesUp = (from-start _ refl, from-start _ refl, from-start _ refl, from-start _ refl, from-start _ refl);

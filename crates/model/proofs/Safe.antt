@@ -19,11 +19,17 @@ pub record Issued (w : List ℕ) (z j : ℕ) : Type 0 where
   pub first :
       firstIssue z (j + 2) (stableHistory w (sequencer w z)) ≡ issue (j + 2) z (orderer w z (suc j)) (members w z (suc j))
 
+-- a replica of configuration j of shard z is immutable
+pub record Wedged (w : List ℕ) (z j : ℕ) : Type 0 where
+  pub number : ℕ
+  pub isImmutable : view w z j number .mode ≡ 3
+
 pub record Safe (w : List ℕ) (offers : ℕ → List ℕ) : Type 0 where
   pub several : 2 ≤ shards w
   pub formed : wellFormed w ≡ true
   pub inv : (z : ℕ) → z < shards w → Inv (view w z) (offers z)
   pub issues : (z j : ℕ) → z < shards w → suc j < installed w z → Issued w z j
+  pub wedges : (z j : ℕ) → z < shards w → suc j < installed w z → Wedged w z j
 
 -- the offers after an accepted step
 unfoldable pub offersAfter : Step → (ℕ → List ℕ) → ℕ → List ℕ

@@ -10,7 +10,7 @@ use borrow.Author.Tests.{ltb-true}
 use lib.ListN.{length}
 use Rattle.model.specs.Members.{size}
 use Rattle.model.specs.Replicas.{Replica, stablePrefix, fresh, unused}
-use Rattle.model.specs.Layout.{shardsOf, replicaAt}
+use Rattle.model.specs.Layout.{shardsOf, installed, replicaAt}
 use Rattle.model.specs.Setup.{setupRejection, afterSetup, initialReplica, initialState, planMembers}
 use Rattle.model.specs.OneList.{shards}
 use Rattle.model.proofs.Parts.{read-words}
@@ -95,8 +95,13 @@ initial-safe Z p f =
       several = rw (f .shards) (f .several);
       formed = is-well-formed f;
       inv = λ z h. new-inv (initial-view Z p f z (rw (f .shards) at h));
-      issues = λ z j h l. absurd (let g : suc j < 1 = rw (initial-installed Z p (rw (f .shards) at h)) at l in omega arith);
+      issues = λ z j h l. absurd (first-alone z j h l);
+      wedges = λ z j h l. absurd (first-alone z j h l);
     }
+  where
+    -- no shard has a second configuration yet
+    first-alone : (z j : ℕ) → z < shards (initialState Z p) → suc j < installed (initialState Z p) z → ⊥
+    first-alone z j h l = let g : suc j < 1 = rw (initial-installed Z p (rw (f .shards) at h)) at l in omega arith
 
 -- no replica has an origin
 new-origin : {j : ℕ} {r : Replica} → New j r → r .origin ≡ 0

@@ -78,11 +78,11 @@ module _ (s : Step) (offers : ℕ → List ℕ) where
   add-offers e = rw (kind-is-add (s .kind), e, eq-eqb (shardOf s) (shardOf s) refl, eq-eqb (s .c) (s .c) refl)
 
 kept-as : {w w′ : List ℕ} {offers o o′ : ℕ → List ℕ} → ((z : ℕ) → o′ z ≡ o z) → Kept w offers w′ o → Kept w offers w′ o′
-kept-as e k = record { forward = k .forward; inv = λ z h. rw (e z) (k .inv z h); issues = k .issues; origins = k .origins }
+kept-as e k = record { forward = k .forward; inv = λ z h. rw (e z) (k .inv z h); issues = k .issues; wedges = k .wedges; origins = k .origins }
 
 -- a state that nothing changes
 kept-same : {w : List ℕ} {offers : ℕ → List ℕ} → Safe w offers → Kept w offers w offers
-kept-same x = record { forward = forward-refl; inv = x .inv; issues = x .issues; origins = λ z j k g h e. stood e }
+kept-same x = record { forward = forward-refl; inv = x .inv; issues = x .issues; wedges = x .wedges; origins = λ z j k g h e. stood e }
 
 -- by kinds
 kept-step : {w : List ℕ} {offers : ℕ → List ℕ} → Safe w offers → (s : Step) → Accepted w s → (k : Kind) → kindOf (s .kind) ≡ k
@@ -127,6 +127,7 @@ safe-step {w} {offers} x s e =
             formed = is-well-formed (effect-formed w s a);
             inv = λ z h. k .inv z (rw f at h);
             issues = λ z j h l. k .issues z j (rw f at h) l;
+            wedges = λ z j h l. k .wedges z j (rw f at h) l;
           };
       forward = k .forward;
       origins = k .origins;

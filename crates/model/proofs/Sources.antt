@@ -38,7 +38,7 @@ module _ {u v : List ℕ} (f : Forward u v) {z a g : ℕ} (h : z < shards u) (s 
   unfolding shown
   source-same = rw (f .memberships z a h (s .there)) (f .immutables z a (replicaNumber (members u z a) g) h (s .isImmutable))
 
-  source-onward : Source v z a g
+  pub source-onward : Source v z a g
   unfolding shown
   source-onward =
       record {

@@ -5,9 +5,9 @@ use native.Mathlib.Omega.{arith}
 use native.Mathlib.Decide.{decLt}
 use mathlib.Core.Path.{_≡_, refl, sym, subst}
 use mathlib.Core.Logic.{_↔_}
-use mathlib.Core.Bool.{Bool, true, false, _&&_, _||_, false≢true}
+use mathlib.Core.Bool.{Bool, true, false, _&&_, _||_, or-true, false≢true}
 use mathlib.Core.List.{List, [], _∷_}
-use Rattle.model.specs.Tests.{allBelow}
+use Rattle.model.specs.Tests.{allBelow, anyBelow}
 
 -- a conjunction of two tests passes where both pass
 pub both : (a b : Bool) → (a && b ≡ true) ↔ ((a ≡ true) × (b ≡ true))
@@ -69,3 +69,32 @@ pub below-all : (n : ℕ) (f : ℕ → Bool) → ((i : ℕ) → i < n → f i �
 unfolding allBelow
 below-all zero f h = refl
 below-all (suc n) f h = both (allBelow n f) (f n) .1 (below-all n f (λ i l. h i (omega arith)), h n (le-refl (suc n)))
+
+-- a test of some number of a range passes where it passes at one below n, and fails where it passes at none
+pub record Below (n : ℕ) (f : ℕ → Bool) : Type 0 where
+  pub number : ℕ
+  pub small : number < n
+  pub passes : f number ≡ true
+
+pub any-below : (n : ℕ) (f : ℕ → Bool) → anyBelow n f ≡ true → Below n f
+unfolding anyBelow
+any-below zero f e = absurd (false≢true e)
+any-below (suc n) f e = go (anyBelow n f) refl e (any-below n f)
+  where
+    go : (b : Bool) → anyBelow n f ≡ b → b || f n ≡ true → (anyBelow n f ≡ true → Below n f) → Below (suc n) f
+    go true q p rest = let r = rest q in record { number = r .number; small = omega (arith, r .small); passes = r .passes }
+    go false q p rest = record { number = n; small = le-refl (suc n); passes = p }
+
+pub below-any : (n : ℕ) (f : ℕ → Bool) (i : ℕ) → i < n → f i ≡ true → anyBelow n f ≡ true
+unfolding anyBelow
+below-any zero f i h e = absurd (omega arith)
+below-any (suc n) f i h e = go (decLt i n) (below-any n f i)
+  where
+    go : Dec (i < n) → (i < n → f i ≡ true → anyBelow n f ≡ true) → anyBelow n f || f n ≡ true
+    go (yes l) rest = rw (rest l e)
+    go (no l) rest = let q : i ≡ n = omega arith in rw (sym q, e, or-true)
+
+pub none-below : (n : ℕ) (f : ℕ → Bool) → ((i : ℕ) → i < n → f i ≡ false) → anyBelow n f ≡ false
+unfolding anyBelow
+none-below zero f h = refl
+none-below (suc n) f h = rw (none-below n f (λ i l. h i (omega arith)), h n (le-refl (suc n)))

@@ -15,7 +15,7 @@ use Rattle.model.specs.WellFormed.{isPart, isHeadOf}
 use Rattle.model.proofs.Tests.{both, all-pass}
 use Rattle.model.proofs.Places.{replica-place}
 use Rattle.model.proofs.Members.{number-below}
-use Rattle.model.proofs.WellFormedParts.{Proper, part-proper}
+use Rattle.model.proofs.WellFormedParts.{Proper, part-proper, part-vacant}
 use Rattle.model.proofs.WellFormed.{WellFormed}
 
 -- a member set with its orderer
@@ -76,6 +76,15 @@ module _ {Z : ℕ} {w : List ℕ} (f : WellFormed Z w) {z j : ℕ} (hz : z < Z) 
       part-proper Z j (part w (place z j k))
       (subst (λ (b : Bool). isPart Z j b (part w (place z j k)) ≡ true) (lt-ltb k (size (members w z j)) h)
       (f .parts z j k hz hj (omega (arith, size-few))))
+
+  -- a replica with a mode is a member's
+  pub number-in-use : {k : ℕ} → k < 4 → 1 ≤ replicaAt w (place z j k) .mode → k < size (members w z j)
+  unfolding replicaAt
+  number-in-use {k} hk l = go (ltb k (size (members w z j))) refl (f .parts z j k hz hj hk)
+    where
+      go : (b : Bool) → ltb k (size (members w z j)) ≡ b → isPart Z j b (part w (place z j k)) ≡ true → k < size (members w z j)
+      go true e p = ltb-true k (size (members w z j)) e
+      go false e p = absurd (omega (arith, l, part-vacant Z j (part w (place z j k)) p .mode-none))
 
   pub member-proper : (h : ℕ) → hasMember (members w z j) h ≡ true → Proper Z j (replicaOf w (configuration w z j) h)
   unfolding replicaOf

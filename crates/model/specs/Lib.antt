@@ -1,4 +1,4 @@
--- What a reader has to believe: document 01, and the requests of document 02 that change it (A2 to A5), as definitions, and the claims that are
+-- What a reader has to believe: document 01, and the requests of document 02 that change it (A2 to A6), as definitions, and the claims that are
 -- proved of them.
 pub mod Tests
 pub mod Checks
@@ -40,5 +40,6 @@ pub mod RoundTrip
 pub mod LogRoundTrip
 pub mod StaysWellFormed
 pub mod Marked
+pub mod WedgedFirst
 pub mod Results
 pub mod OwnCases

@@ -90,9 +90,9 @@ marked =
     ∷ answers (add 1 1 nextIssue ∷ []) (17 ∷ [])
     -- "Installed before it is confirmed: 20"
     ∷ answers (add 0 1 nextIssue ∷ install 1 1 0 0 ∷ []) (0 ∷ 20 ∷ [])
-    -- "Inherit from an active source: 13"
-    ∷ answers (add 0 1 nextIssue ∷ adopt 0 1 1 ∷ learn 0 1 0 1 ∷ install 1 1 0 0 ∷ inherit 1 2 3 2 ∷ [])
-    (0 ∷ 0 ∷ 0 ∷ 0 ∷ 13 ∷ [])
+    -- "Inherit from an active source: 13"; since request A6 host 3 is wedged before the install, and host 2 is the active source
+    ∷ answers (add 0 1 nextIssue ∷ adopt 0 1 1 ∷ learn 0 1 0 1 ∷ wedge 1 1 3 ∷ install 1 1 0 0 ∷ inherit 1 2 3 2 ∷ [])
+    (0 ∷ 0 ∷ 0 ∷ 0 ∷ 0 ∷ 13 ∷ [])
     -- "Bytes `04 01 02 05` are wedge 1, 2, 5"
     ∷ reads (4 ∷ 1 ∷ 2 ∷ 5 ∷ []) (Read (wedge 1 2 5) 4)
     -- "`01 00 01 AC 02` adds take 300"

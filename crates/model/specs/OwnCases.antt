@@ -93,6 +93,10 @@ twoIssues = changed programStart ((65, 2 ∷ 2 ∷ []) ∷ (72, nextIssue ∷ ri
 unfoldable pub oneTake : List Step
 oneTake = add 0 1 7 ∷ adopt 0 1 1 ∷ learn 0 1 1 1 ∷ []
 
+-- an issue is added in shard 0, adopted by its other host, and confirmed at its orderer
+unfoldable pub confirmed : ℕ → List Step
+confirmed e = add 0 1 e ∷ adopt 0 1 1 ∷ learn 0 1 0 1 ∷ []
+
 -- take 12 is confirmed at host 3 of shard 1, which is then wedged; shard 0 issues hosts 3 and 5 for index 2 of shard 1, confirms that, and it is installed
 unfoldable pub replaced : List Step
 replaced =
@@ -201,12 +205,17 @@ pub record KindOrders : Type 0 where
       × (tried (replaced ++ (inherit 1 2 5 3 ∷ learn 1 2 5 1 ∷ [])) ≡ replicate 9 0 ++ (18 ∷ []))
   -- "wedge 10, 11, 12"
   pub wedges : (tried (wedge 0 2 5 ∷ []) ≡ 10 ∷ []) × (tried (wedge 0 1 5 ∷ []) ≡ 11 ∷ [])
-  -- "install 10, 11, 20, 21, 22"
+  -- "install 10, 11, 20, 21, 22", and 24 "after 21 and before 22". It is told where no replica is immutable, where one is in the sequencer alone, and
+  -- where one is in an older configuration alone
   pub installs : (tried (install 1 2 5 0 ∷ []) ≡ 10 ∷ [])
       × (tried (install 1 1 5 0 ∷ []) ≡ 11 ∷ [])
       × (tried (add 0 1 laterIssue ∷ install 1 1 0 0 ∷ []) ≡ 0 ∷ 20 ∷ [])
-      × (answersFrom twoIssues (install 1 1 0 0 ∷ install 1 1 0 1 ∷ []) ≡ 0 ∷ 21 ∷ [])
-      × (rejection twoIssues (install 1 1 0 1) ≡ 22)
+      × (tried (confirmed laterIssue ++ (install 1 1 0 0 ∷ [])) ≡ replicate 3 0 ++ (21 ∷ []))
+      × (answersFrom twoIssues (wedge 1 1 3 ∷ install 1 1 0 0 ∷ install 1 1 0 1 ∷ []) ≡ 0 ∷ 0 ∷ 21 ∷ [])
+      × (answersFrom twoIssues (install 1 1 0 1 ∷ wedge 1 1 3 ∷ install 1 1 0 1 ∷ []) ≡ 24 ∷ 0 ∷ 22 ∷ [])
+      × (tried (confirmed nextIssue ++ (install 1 1 0 0 ∷ wedge 1 1 2 ∷ install 1 1 0 0 ∷ [])) ≡ replicate 3 0 ++ (24 ∷ 0 ∷ 0 ∷ []))
+      × (tried (confirmed nextIssue ++ (wedge 0 1 0 ∷ wedge 0 1 1 ∷ install 1 1 0 0 ∷ [])) ≡ replicate 5 0 ++ (24 ∷ []))
+      × (tried (replaced ++ (add 0 1 laterIssue ∷ adopt 0 1 1 ∷ learn 0 1 0 2 ∷ install 1 1 0 1 ∷ [])) ≡ replicate 11 0 ++ (24 ∷ []))
   -- "inherit 10, 11, 12, 13"
   pub inherits : (tried (inherit 1 2 9 9 ∷ []) ≡ 10 ∷ [])
       × (tried (replaced ++ (inherit 1 2 9 3 ∷ [])) ≡ replicate 8 0 ++ (11 ∷ []))

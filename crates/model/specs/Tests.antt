@@ -9,6 +9,11 @@ unfoldable pub allBelow : ℕ → (ℕ → Bool) → Bool
 allBelow zero f = true
 allBelow (suc n) f = allBelow n f && f n
 
+-- f passes at some number below n
+unfoldable pub anyBelow : ℕ → (ℕ → Bool) → Bool
+anyBelow zero f = false
+anyBelow (suc n) f = anyBelow n f || f n
+
 -- f passes at every element
 unfoldable pub allOf : (ℕ → Bool) → List ℕ → Bool
 allOf f [] = true

@@ -1,4 +1,4 @@
--- The answer of a list of checks is at most a bound on their numbers, so a step's is at most 23. Assumes nothing.
+-- The answer of a list of checks is at most a bound on their numbers, so a step's is at most 24. Assumes nothing.
 use Prim.Native.Nat.{ℕ, _≤_}
 use native.Mathlib.Omega.{arith}
 use mathlib.Core.Path.{_≡_, refl}
@@ -37,7 +37,7 @@ first-most m (c ∷ cs) e =
     either true h l = h
     either false h l = l
 
-kind-most : (k : Kind) (w : List ℕ) (z j c d : ℕ) → areAtMost 23 (kindChecks k w z j c d) ≡ true
+kind-most : (k : Kind) (w : List ℕ) (z j c d : ℕ) → areAtMost 24 (kindChecks k w z j c d) ≡ true
 unfolding kindChecks addChecks adoptChecks learnChecks wedgeChecks installChecks inheritChecks catchUpChecks
 kind-most Add w z j c d = refl
 kind-most Adopt w z j c d = refl
@@ -49,7 +49,7 @@ kind-most CatchUp w z j c d = refl
 kind-most Kept w z j c d = refl
 kind-most Unknown w z j c d = refl
 
-pub rejection-most : (w : List ℕ) (s : Step) → rejection w s ≤ 23
+pub rejection-most : (w : List ℕ) (s : Step) → rejection w s ≤ 24
 unfolding rejection stepChecks
 rejection-most w s =
-    first-most 23 (stepChecks w s) (kind-most (kindOf (s .kind)) w (shardOf s) (configurationOf s) (s .c) (s .d))
+    first-most 24 (stepChecks w s) (kind-most (kindOf (s .kind)) w (shardOf s) (configurationOf s) (s .c) (s .d))

@@ -3,7 +3,9 @@ use native.Mathlib.Omega.{arith}
 use Rattle.model.specs.declared.kind.Kind.the-variants.{Install}
 use Rattle.lookup.proofs.KindAnswers.{out-of-range}
 use Rattle.install_steps.proofs.InstallReads.{installed-few}
-use Rattle.install_steps.proofs.InstallSteps.{known, named, few, nowhere, not-stable, no-issue, is-issue, not-next, earlier, next-ready, done}
+use Rattle.install_steps.proofs.Wedges.{first-ready}
+use Rattle.install_steps.proofs.InstallSteps.{known, named, few, nowhere, not-stable, no-issue, is-issue, not-next, not-wedged}
+use Rattle.install_steps.proofs.InstallSteps.{earlier, next-ready, done}
 use borrow.Author.Needs.{needs}
 use Rattle.install_steps.proofs.install.Statement.{statement}
 use Rattle.install_steps.proofs.install.Tie as tie
@@ -117,6 +119,26 @@ returns-5 c =
     not-next (n .before .before .pre) _ _ (n .are-numbers .ensures) (f .before .before .if1 .left) (f .issuer .ensures .0)
     (i .if2 .left) (l .if3 .left) (m .is-issue-for .ensures) (c .before .before .before .if4 .left) (c .before .before .issue-index .ensures) (c .if5 .taken)
 
+is-newest-wedged-requires : tie.Need-is-newest-wedged-requires
+is-newest-wedged-requires c κs =
+    let f = c .before .before .before .before .before .before .before .before .before .before .before in
+    first-ready (f .before .before .before .before .before .pre .ready)
+
+same-length-5 : tie.Need-same-length-5
+same-length-5 c = search needs
+
+returns-6 : tie.Need-returns-6
+returns-6 c =
+    let x = c .before .before .before .before .before in
+    let m = x .before .before in
+    let l = m .before .before in
+    let i = l .before .before in
+    let f = i .before .before in
+    let n = f .before .before .before in
+    not-wedged (n .before .before .pre) _ _ (n .are-numbers .ensures) (f .before .before .if1 .left) (f .issuer .ensures .0)
+    (i .if2 .left) (l .if3 .left) (m .is-issue-for .ensures) (x .before .if4 .left) (x .issue-index .ensures) (c .before .before .before .if5 .left)
+    (c .before .is-newest-wedged .ensures) (c .if6 .taken)
+
 mul-is-issued : tie.Need-mul-is-issued
 mul-is-issued c = search needs
 
@@ -128,13 +150,13 @@ part-is-issued-start c = search needs
 
 part-is-issued-end : tie.Need-part-is-issued-end
 part-is-issued-end c =
-    let f = c .before .before .before .before .before .before .before .before .before .before .before in
+    let f = c .before .before .before .before .before .before .before .before .before .before .before .before .before .before in
     let n = f .before .before .before in
     omega (arith, few (n .before .before .pre) _ _ (n .are-numbers .ensures) (f .before .before .if1 .left), f .issuer .ensures .1 .fits)
 
 is-issued-requires : tie.Need-is-issued-requires
 is-issued-requires c κs =
-    let x = c .before .before .before .before in
+    let x = c .before .before .before .before .before .before .before in
     let m = x .before .before in
     let l = m .before .before in
     let i = l .before .before in
@@ -143,20 +165,21 @@ is-issued-requires c κs =
     is-issue (n .before .before .pre) _ _ (n .are-numbers .ensures) (f .before .before .if1 .left) (f .issuer .ensures .0)
     (i .if2 .left) (l .if3 .left) (m .is-issue-for .ensures) (x .before .if4 .left)
 
-same-length-5 : tie.Need-same-length-5
-same-length-5 c = search needs
+same-length-6 : tie.Need-same-length-6
+same-length-6 c = search needs
 
-returns-6 : tie.Need-returns-6
-returns-6 c =
-    let x = c .before .before .before .before .before .before in
+returns-7 : tie.Need-returns-7
+returns-7 c =
+    let d = c .before .before .before .before in
+    let x = d .before .before .before .before .before in
     let m = x .before .before in
     let l = m .before .before in
     let i = l .before .before in
     let f = i .before .before in
     let n = f .before .before .before in
     earlier (n .before .before .pre) _ _ (n .are-numbers .ensures) (f .before .before .if1 .left) (f .issuer .ensures .0)
-    (i .if2 .left) (l .if3 .left) (m .is-issue-for .ensures) (x .before .if4 .left) (x .issue-index .ensures) (c .before .before .before .before .if5 .left)
-    (f .issuer .ensures .1) (c .before .is-issued .ensures) (c .if6 .taken)
+    (i .if2 .left) (l .if3 .left) (m .is-issue-for .ensures) (x .before .if4 .left) (x .issue-index .ensures) (d .before .before .before .if5 .left)
+    (d .before .is-newest-wedged .ensures) (d .if6 .left) (f .issuer .ensures .1) (c .before .is-issued .ensures) (c .if7 .taken)
 
 issue-members-requires : tie.Need-issue-members-requires
 issue-members-requires c κs = search needs
@@ -167,33 +190,36 @@ issue-orderer-requires c κs = search needs
 install-next-requires : tie.Need-install-next-requires
 install-next-requires c κs =
     let u = c .before .before .before .before in
-    let x = u .before .before .before .before .before in
+    let d = u .before .before .before in
+    let x = d .before .before .before .before .before in
     let m = x .before .before in
     let l = m .before .before in
     let i = l .before .before in
     let f = i .before .before in
     let n = f .before .before .before in
     next-ready (n .before .before .pre) _ _ (n .are-numbers .ensures) (f .before .before .if1 .left) (f .issuer .ensures .0)
-    (i .if2 .left) (l .if3 .left) (m .is-issue-for .ensures) (x .before .if4 .left) (x .issue-index .ensures) (u .before .before .before .if5 .left)
-    (f .issuer .ensures .1) (u .is-issued .ensures) (c .before .before .before .if6 .left) (c .before .issue-members .ensures) (c .issue-orderer .ensures)
+    (i .if2 .left) (l .if3 .left) (m .is-issue-for .ensures) (x .before .if4 .left) (x .issue-index .ensures) (d .before .before .before .if5 .left)
+    (d .before .is-newest-wedged .ensures) (d .if6 .left) (f .issuer .ensures .1) (u .is-issued .ensures) (c .before .before .before .if7 .left)
+    (c .before .issue-members .ensures) (c .issue-orderer .ensures)
 
-same-length-6 : tie.Need-same-length-6
-same-length-6 c = search needs
+same-length-7 : tie.Need-same-length-7
+same-length-7 c = search needs
 
-returns-7 : tie.Need-returns-7
-returns-7 c =
-    let d = c .before .before in
-    let u = d .before .before .before .before .before in
-    let x = u .before .before .before .before .before in
+returns-8 : tie.Need-returns-8
+returns-8 c =
+    let k = c .before .before in
+    let u = k .before .before .before .before .before in
+    let d = u .before .before .before in
+    let x = d .before .before .before .before .before in
     let m = x .before .before in
     let l = m .before .before in
     let i = l .before .before in
     let f = i .before .before in
     let n = f .before .before .before in
     done (n .before .before .pre) _ _ (n .are-numbers .ensures) (f .before .before .if1 .left) (f .issuer .ensures .0)
-    (i .if2 .left) (l .if3 .left) (m .is-issue-for .ensures) (x .before .if4 .left) (x .issue-index .ensures) (u .before .before .before .if5 .left)
-    (f .issuer .ensures .1) (u .is-issued .ensures) (d .before .before .before .before .if6 .left) (d .before .before .issue-members .ensures)
-    (d .before .issue-orderer .ensures) (d .install-next .ensures)
+    (i .if2 .left) (l .if3 .left) (m .is-issue-for .ensures) (x .before .if4 .left) (x .issue-index .ensures) (d .before .before .before .if5 .left)
+    (d .before .is-newest-wedged .ensures) (d .if6 .left) (f .issuer .ensures .1) (u .is-issued .ensures) (k .before .before .before .before .if7 .left)
+    (k .before .before .issue-members .ensures) (k .before .issue-orderer .ensures) (k .install-next .ensures)
 
 pub install-spec : {M : Type 1} → statement M
 install-spec =
@@ -224,15 +250,18 @@ install-spec =
     add-if5-2
     same-length-4
     returns-5
+    is-newest-wedged-requires
+    same-length-5
+    returns-6
     mul-is-issued
     sub-is-issued
     part-is-issued-start
     part-is-issued-end
     is-issued-requires
-    same-length-5
-    returns-6
+    same-length-6
+    returns-7
     issue-members-requires
     issue-orderer-requires
     install-next-requires
-    same-length-6
-    returns-7)
+    same-length-7
+    returns-8)
