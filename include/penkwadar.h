@@ -87,7 +87,8 @@ extern "C" {
                                 of the index begin alike so far */
 #define PENKWADAR_WEDGE 4    /* zone, index, box: the box's list becomes immutable */
 #define PENKWADAR_INSTALL 5  /* zone; index and box in its sequencer, place from 0 in that box's list: the next index of
-                                the zone is what is issued there, its members pending */
+                                the zone is what is issued there, its members pending. A box of the zone's newest index
+                                has to be wedged first, so that they find a list to inherit */
 #define PENKWADAR_INHERIT 6  /* zone, index, box, source: the pending box begins with the list of an immutable box of
                                 the index before, and its seat notes which box that is */
 #define PENKWADAR_CATCH_UP 7 /* zone, index, box, peer: the pending box begins with the list of another box of the same
@@ -96,7 +97,7 @@ extern "C" {
 /* ---- Rejections ----
  *
  * Of a step, in this order: 1, 3, 4, 7, 9, and then of an add 10, 12, 17, 15, 23, 16; an adopt 10, 11, 14, 12, 13; a
- * learn 10, 11, 12, 18, 19; a wedge 10, 11, 12; an install 10, 11, 20, 21, 22; an inherit and a catch-up
+ * learn 10, 11, 12, 18, 19; a wedge 10, 11, 12; an install 10, 11, 20, 21, 24, 22; an inherit and a catch-up
  * 10, 11, 12, 13. */
 
 /* because of the input */
@@ -129,6 +130,7 @@ extern "C" {
 #define PENKWADAR_EARLIER_ISSUE 22    /* an earlier issue there has the same zone and index; no step gets this on a state
                                          that comes from setup by these functions alone */
 #define PENKWADAR_INDEX_ISSUED 23     /* another issue in the list has the same zone and index */
+#define PENKWADAR_NOT_WEDGED 24       /* no box of the zone's newest index is wedged (immutable) */
 
 /* ---- Setup and steps ---- */
 
@@ -140,7 +142,7 @@ uint64_t penkwadar_state_words(uint64_t zones);
  * Rejections: 1, 2. */
 uint64_t penkwadar_setup(uint64_t *state, size_t state_len, const uint64_t *plan, size_t plan_len);
 
-/* Tries one step. Rejections: 1, 3, 4, 7, 9, and those of the kind, 10 to 23. */
+/* Tries one step. Rejections: 1, 3, 4, 7, 9, and those of the kind, 10 to 24. */
 uint64_t penkwadar_step(uint64_t *state, size_t state_len, uint64_t kind, uint64_t a, uint64_t b, uint64_t c,
                         uint64_t d);
 

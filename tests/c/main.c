@@ -186,7 +186,8 @@ static void check_stable_prefix(void)
     CHECK(penkwadar_stable_prefix(state, WORDS, 1, 1, 3, out, 0, count, 1) == 0 && count[0] == 0);
 }
 
-/* Zone 0 issues boxes 3 and 5 for index 2 of zone 1; box 3 starts from the frozen list of box 2. */
+/* Zone 0 issues boxes 3 and 5 for index 2 of zone 1, which can be installed once a box of index 1 is wedged; box 3 starts
+ * from the frozen list of box 2. */
 static void check_reconfiguration(void)
 {
     const uint64_t *heir = state + PENKWADAR_SEAT(1, 2, 0);
@@ -196,6 +197,10 @@ static void check_reconfiguration(void)
     CHECK(step(ADOPT, 0, 1, 1, 0) == 0);
     CHECK(step(LEARN, 0, 1, 1, 2) == 0);
     CHECK(step(ADD, 1, 1, 300, 0) == 0);
+    CHECK(PENKWADAR_NOT_WEDGED == 24);
+    CHECK(step(INSTALL, 1, 1, 1, 1) == PENKWADAR_NOT_WEDGED && state_unchanged());
+    CHECK(step(INSTALL, 1, 1, 1, 0) == PENKWADAR_NO_STABLE_ISSUE && state_unchanged());
+    CHECK(step(WEDGE, 1, 1, 3, 0) == 0);
     CHECK(step(INSTALL, 1, 1, 1, 1) == 0);
     CHECK(state[PENKWADAR_INSTALLED(1)] == 2);
     CHECK(state[PENKWADAR_MEMBERS(1, 2)] == 40 && state[PENKWADAR_ORDERER(1, 2)] == 3);

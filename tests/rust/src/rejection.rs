@@ -53,11 +53,13 @@ pub enum Rejection {
     EarlierIssue = 22,
     /// Another issue in the history has the same shard and index.
     IndexIssued = 23,
+    /// No replica of the shard's newest configuration is immutable.
+    NotWedged = 24,
 }
 
 impl Rejection {
     /// All rejections, in the order of their numbers.
-    pub const ALL: [Rejection; 23] = [
+    pub const ALL: [Rejection; 24] = [
         Rejection::StateLength,
         Rejection::Plan,
         Rejection::KindKept,
@@ -81,9 +83,10 @@ impl Rejection {
         Rejection::NotNextIndex,
         Rejection::EarlierIssue,
         Rejection::IndexIssued,
+        Rejection::NotWedged,
     ];
 
-    /// Its number, 1 to 23.
+    /// Its number, 1 to 24.
     pub const fn number(self) -> u64 {
         self as u64
     }

@@ -35,7 +35,8 @@ impl Step {
         Step::new(4, [shard, index, host, 0])
     }
 
-    /// The issue at a place of a replica of the shard's sequencer becomes the shard's next configuration.
+    /// The issue at a place of a replica of the shard's sequencer becomes the shard's next configuration. The newest one
+    /// has to be wedged first.
     pub const fn install(shard: u64, index: u64, host: u64, place: u64) -> Step {
         Step::new(5, [shard, index, host, place])
     }

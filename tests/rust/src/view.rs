@@ -28,6 +28,11 @@ impl<'a> View<'a> {
         View { words }
     }
 
+    /// All words.
+    pub fn words(self) -> &'a [u64] {
+        self.words
+    }
+
     pub fn shards(self) -> u64 {
         (self.words.len() / SHARD_WORDS) as u64
     }
@@ -95,6 +100,16 @@ impl<'a> View<'a> {
         longest
     }
 
+    /// Whether a replica of an installed configuration is immutable.
+    pub fn is_wedged(self, shard: u64, index: u64) -> bool {
+        self.replicas(shard, index).any(|replica| replica.mode() == IMMUTABLE)
+    }
+
+    /// Whether a replica of the newest configuration is immutable.
+    pub fn is_newest_wedged(self, shard: u64) -> bool {
+        self.is_wedged(shard, self.installed(shard))
+    }
+
     pub fn replica(self, shard: u64, index: u64, host: u64) -> Option<Replica<'a>> {
         if !(1..=self.installed(shard)).contains(&index) {
             return None;
@@ -133,7 +148,7 @@ fn first_replica(index: u64) -> usize {
 }
 
 /// The word of an issue.
-pub fn issue(index: u64, shard: u64, orderer: u64, members: u64) -> u64 {
+pub const fn issue(index: u64, shard: u64, orderer: u64, members: u64) -> u64 {
     (1 << 32) + (index << 24) + (shard << 20) + (orderer << 16) + members
 }
 

@@ -19,14 +19,9 @@ const HOST_5: usize = 384;
 
 /// Hosts 0 and 1 are wedged with take 7; hosts 4, 5 and 6 of index 2 are pending.
 fn wedged() -> Script {
-    let mut script = Script::installed(&[4, 5, 6]);
-    script.play(&[
-        Step::add(0, 1, 7),
-        Step::adopt(0, 1, 1),
-        Step::wedge(0, 1, 0),
-        Step::wedge(0, 1, 1),
-    ]);
-    script
+    let steps =
+        [Step::add(0, 1, 7), Step::adopt(0, 1, 1), Step::wedge(0, 1, 0), Step::wedge(0, 1, 1)];
+    Script::installed(&steps, &[4, 5, 6])
 }
 
 /// Host 4 inherited from host 0.
@@ -117,7 +112,8 @@ fn after_an_inherit() {
     assert_eq!(verdict(&|words| words[HOST_0 + 2] = 1), CHANGED, "it learned");
     let longer = |words: &mut [u64]| (words[HOST_0 + 1], words[HOST_0 + 9]) = (2, 8);
     assert_eq!(verdict(&longer), CHANGED, "one more entry");
-    assert_eq!(verdict(&|words| words[HOST_1] = ACTIVE), Ok(()), "nobody's source");
+    let thawed = verdict(&|words| words[HOST_1] = ACTIVE);
+    assert_eq!(thawed, Err(Violation::ImmutableChanged), "nobody's source");
     assert_eq!(verdict(&|words| words[HOST_4] = PENDING), WRONG);
 }
 
@@ -137,13 +133,13 @@ fn after_a_catch_up() {
 /// Inherit from an active replica, which goes on: at once the source is not immutable, and then there are two lists.
 #[test]
 fn an_active_source() {
-    Script::installed(&[4]).play_wrong(
+    let mut script = Script::installed(&[Step::add(0, 1, 7), Step::wedge(0, 1, 0)], &[4]);
+    script.play_wrong(
         Wrong::InheritActive,
         &[
-            (Step::inherit(0, 2, 4, 0), CHANGED),
+            (Step::inherit(0, 2, 4, 1), CHANGED),
             (Step::add(0, 2, 8), CHANGED),
             (Step::learn(0, 2, 4, 1), CHANGED),
-            (Step::add(0, 1, 7), CHANGED),
             (Step::adopt(0, 1, 1), CHANGED),
             (Step::learn(0, 1, 1, 1), Err(Violation::Disagrees)),
         ],
@@ -154,9 +150,9 @@ fn an_active_source() {
 /// the replica began from nothing, and then there are two lists.
 #[test]
 fn a_pending_peer() {
-    let mut script = Script::installed(&[4, 5]);
-    script.play(&[Step::add(0, 1, 7), Step::adopt(0, 1, 1), Step::learn(0, 1, 1, 1)]);
-    script.play_wrong(
+    let steps =
+        [Step::add(0, 1, 7), Step::adopt(0, 1, 1), Step::learn(0, 1, 1, 1), Step::wedge(0, 1, 0)];
+    Script::installed(&steps, &[4, 5]).play_wrong(
         Wrong::CatchUpPending,
         &[
             (Step::catch_up(0, 2, 4, 5), WRONG),
@@ -171,20 +167,19 @@ fn a_pending_peer() {
 /// Three configurations: the trace goes by the inherits, and is that of its peer where a replica caught up.
 #[test]
 fn traces() {
-    let mut script = Script::installed(&[4, 5, 6]);
+    let wedges = [Step::wedge(0, 1, 0), Step::wedge(0, 1, 1)];
+    let mut script = Script::installed(&wedges, &[4, 5, 6]);
     let seat = |index, host| Seat { shard: 0, index, host };
     assert_eq!(script.claims.trace(seat(2, 4)), [], "pending");
     script.play(&[
-        Step::wedge(0, 1, 0),
-        Step::wedge(0, 1, 1),
         Step::inherit(0, 2, 4, 1),
         Step::inherit(0, 2, 5, 0),
         Step::catch_up(0, 2, 6, 4),
         Step::add(1, 1, issue(3, 0, 7, 0b11 << 7)),
         Step::adopt(1, 1, 3),
         Step::learn(1, 1, 3, 2),
-        Step::install(0, 1, 3, 1),
         Step::wedge(0, 2, 6),
+        Step::install(0, 1, 3, 1),
         Step::inherit(0, 3, 7, 6),
         Step::catch_up(0, 3, 8, 7),
     ]);

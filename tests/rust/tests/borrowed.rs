@@ -35,6 +35,8 @@ fn assert_complete(coverage: &Coverage) {
     assert!(coverage.capped >= 100, "adopt's cap was hardly met\n{coverage}");
     assert!(coverage.kinds[1][23] >= 100, "hardly any rival issue added\n{coverage}");
     assert!(coverage.kinds[5][22] >= 100, "hardly any rival issue installed\n{coverage}");
+    assert!(coverage.kinds[5][24] >= 100, "hardly any install before a wedge\n{coverage}");
+    assert!(coverage.indices[2..].iter().all(|&n| n >= 100), "hardly any installs\n{coverage}");
     assert!(coverage.unlike >= 100, "hardly any unlike histories\n{coverage}");
     assert!(coverage.catch_ups.are_complete(100), "hardly any catch-ups of a sort\n{coverage}");
 }

@@ -5,11 +5,11 @@ use penkwadar_tests::plain;
 use penkwadar_tests::step::Step;
 use penkwadar_tests::testing::plans::plan;
 use penkwadar_tests::testing::random::Random;
-use penkwadar_tests::testing::script::Script;
+use penkwadar_tests::testing::script::{INSTALL, Script};
 use penkwadar_tests::testing::steps::any_step;
 use penkwadar_tests::testing::temper::Temper;
 use penkwadar_tests::testing::wrong::Wrong;
-use penkwadar_tests::view::{SHARD_WORDS, View, issue};
+use penkwadar_tests::view::{ACTIVE, SHARD_WORDS, View, issue};
 
 /// The runs of wrong machines are always the same.
 const SEED: u64 = 1;
@@ -87,9 +87,8 @@ fn not_empty_after_setup() {
 /// An entry may become stable again elsewhere, but not another one in its place.
 #[test]
 fn other_entry_at_a_later_moment() {
-    let mut script = Script::installed(&[4]);
+    let mut script = Script::installed(&[Step::wedge(0, 1, 0)], &[4]);
     script.play(&[
-        Step::wedge(0, 1, 0),
         Step::inherit(0, 2, 4, 0),
         Step::add(0, 2, 7),
         Step::learn(0, 2, 4, 1),
@@ -98,6 +97,56 @@ fn other_entry_at_a_later_moment() {
     // The replica of index 1 that was not wedged holds another stable entry, which was offered.
     let other = |words: &mut [u64]| (words[128 + 1], words[128 + 2], words[128 + 8]) = (1, 1, 8);
     assert_eq!(script.verdict(other, Step::wedge(0, 1, 0)), Err(Violation::Disagrees));
+}
+
+/// Index 2 is installed and nobody of index 1 is wedged: nobody can inherit, until somebody is.
+#[test]
+fn without_a_source() {
+    let mut script = Script::issued(&[4]);
+    script.play_wrong(
+        Wrong::InstallUnwedged,
+        &[
+            (INSTALL, Err(Violation::NoSource)),
+            (Step::add(0, 1, 7), Err(Violation::NoSource)),
+            (Step::wedge(0, 1, 0), Ok(())),
+        ],
+    );
+    script.play(&[Step::inherit(0, 2, 4, 0)]);
+}
+
+/// Where only a host of the sequencer is wedged, the one error installs; where only one of the shard itself is, it does
+/// not, which breaks no claim.
+#[test]
+fn wedged_in_the_sequencer() {
+    let wrong = Wrong::InstallSequencerWedged;
+    let mut script = Script::issued(&[4]);
+    script.play(&[Step::wedge(1, 1, 2)]);
+    script.play_wrong(wrong, &[(INSTALL, Err(Violation::NoSource))]);
+    let mut script = Script::issued(&[4]);
+    script.play(&[Step::wedge(0, 1, 0)]);
+    let before = script.words.clone();
+    assert_eq!((wrong.step(&mut script.words, INSTALL), &script.words), (24, &before));
+}
+
+/// A wedged replica goes on, before and after the next configuration is installed: `HOST_0` and `HOST_1` of index 1.
+#[test]
+fn immutable_no_longer() {
+    const HOST_0: usize = 64;
+    const HOST_1: usize = 128;
+    let steps = [Step::wedge(0, 1, 0), Step::wedge(0, 1, 1)];
+    let mut issued = Script::issued(&[4]);
+    issued.play(&steps);
+    let changed = Err(Violation::ImmutableChanged);
+    let active = |words: &mut [u64]| words[HOST_0] = ACTIVE;
+    assert_eq!(issued.verdict(active, INSTALL), changed);
+    let verdict = |change: &dyn Fn(&mut [u64])| {
+        Script::installed(&steps, &[4]).verdict(change, Step::add(0, 1, 7))
+    };
+    assert_eq!(verdict(&|_| ()), Ok(()));
+    assert_eq!(verdict(&active), changed);
+    assert_eq!(verdict(&|words| (words[HOST_0], words[HOST_1]) = (ACTIVE, ACTIVE)), changed);
+    let longer = |words: &mut [u64]| (words[HOST_1 + 1], words[HOST_1 + 8]) = (1, 7);
+    assert_eq!(verdict(&longer), changed, "one more entry");
 }
 
 /// Random runs of machines with one error each: some run has to break a claim, and never in an unfit way.

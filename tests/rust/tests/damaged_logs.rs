@@ -11,7 +11,7 @@ use penkwadar_tests::view::{SHARD_WORDS, issue};
 /// The program's plan.
 const PLAN: [u64; 6] = [1, 0b0011, 0, 0, 0b1100, 2];
 
-/// Steps of all kinds with numbers of one to five bytes; most are accepted.
+/// Steps of all kinds with numbers of one to five bytes; all but two are accepted.
 fn steps() -> Vec<Step> {
     let successor = issue(2, 1, 3, 0b10_1000);
     vec![
@@ -20,9 +20,9 @@ fn steps() -> Vec<Step> {
         Step::adopt(0, 1, 1),
         Step::learn(0, 1, 0, 2),
         Step::learn(0, 1, 1, 300),
-        Step::install(1, 1, 0, 1),
         Step::add(1, 1, 20_000),
         Step::wedge(1, 1, 2),
+        Step::install(1, 1, 0, 1),
         Step::inherit(1, 2, 3, 2),
         Step::catch_up(1, 2, 5, 3),
         Step::add(1, 2, 3_000_000),
@@ -84,6 +84,7 @@ fn assert_stop(bytes: &[u8], whole: usize, at: usize, damage: u64) {
 #[test]
 fn cut_at_every_byte() {
     let (log, starts) = log();
+    assert_eq!(after_steps(starts.len()).1, 2, "steps that are rejected");
     for end in 0..=log.len() {
         let whole = starts.iter().filter(|&&start| start < end).count();
         match starts.contains(&end) || end == log.len() {

@@ -42,6 +42,7 @@ fn assert_complete(coverage: &Coverage) {
     assert!(all(&coverage.stops), "a way to stop is missing\n{coverage}");
     assert!(all(&coverage.shards[2..]), "a number of shards is missing\n{coverage}");
     assert!(all(&coverage.indices[2..]), "an index was never installed\n{coverage}");
+    assert!(coverage.kinds[5][24] >= 100, "hardly any install before a wedge\n{coverage}");
     assert!(coverage.full > 0, "no history was filled\n{coverage}");
     assert!(coverage.unlike > 0, "no histories were unlike\n{coverage}");
     assert!(coverage.catch_ups.are_complete(100), "a sort of catch-up is missing\n{coverage}");

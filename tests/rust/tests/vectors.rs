@@ -61,7 +61,7 @@ fn proved_lengths() {
 
 fn steps<I: Interface>() {
     let vectors = step_vectors();
-    assert!(vectors.len() >= 2_540, "only {} vectors", vectors.len());
+    assert!(vectors.len() >= 2_940, "only {} vectors", vectors.len());
     for (number, vector) in (1..).zip(vectors) {
         step::<I>(number, vector);
     }
@@ -75,7 +75,7 @@ fn step<I: Interface>(number: u64, mut vector: StepVector) {
 
 fn programs<I: Interface>() {
     let vectors = program_vectors();
-    assert!(vectors.len() >= 214, "only {} vectors", vectors.len());
+    assert!(vectors.len() >= 248, "only {} vectors", vectors.len());
     for vector in vectors {
         let (mut out, mut count) = (vec![0xee; 50_000], [7]);
         let answer = I::transcript(&vector.input, &mut out, &mut count);

@@ -86,7 +86,21 @@ fn full_history_with_an_issue() {
     assert_eq!(state.step(Step::add(0, 1, issue(3, 1, 3, 8))), Err(Rejection::HistoryFull));
 }
 
-/// One configuration follows another: added, adopted, learned, installed, inherited.
+/// Index 2 of shard 1 can be installed as soon as a box of index 1 is wedged.
+#[test]
+fn wedge_before_install() {
+    let mut state = state();
+    let install = Step::install(1, 1, 1, 0);
+    run(&mut state, &[Step::add(0, 1, SUCCESSOR), Step::adopt(0, 1, 1), Step::learn(0, 1, 1, 1)]);
+    assert_eq!(state.step(install), Err(Rejection::NotWedged));
+    run(&mut state, &[Step::wedge(0, 1, 0), Step::wedge(0, 1, 1)]);
+    assert_eq!(state.step(install), Err(Rejection::NotWedged), "only the sequencer's boxes");
+    run(&mut state, &[Step::wedge(1, 1, 3), install]);
+    assert_eq!(state.step(install), Err(Rejection::NotNextIndex), "once more");
+    run(&mut state, &[Step::inherit(1, 2, 5, 3)]);
+}
+
+/// One configuration follows another: added, adopted, learned, wedged, installed, inherited.
 #[test]
 fn reconfiguration() {
     let mut state = state();
@@ -95,6 +109,7 @@ fn reconfiguration() {
         Step::adopt(0, 1, 1),
         Step::learn(0, 1, 1, 1),
         Step::add(1, 1, 300),
+        Step::wedge(1, 1, 3),
         Step::install(1, 1, 1, 0),
     ];
     run(&mut state, &accepted);
@@ -199,8 +214,8 @@ fn boxes_and_where_they_began() {
     let seat = |index, host| Seat { shard: 1, index, host };
     let last = issue(3, 1, 7, 1 << 7);
     run(&mut state, &[Step::add(0, 1, SUCCESSOR), Step::add(0, 1, last), Step::adopt(0, 1, 1)]);
-    run(&mut state, &[Step::learn(0, 1, 1, 2), Step::install(1, 1, 1, 0)]);
-    run(&mut state, &[Step::wedge(1, 1, 2), Step::wedge(1, 1, 3)]);
+    run(&mut state, &[Step::learn(0, 1, 1, 2), Step::wedge(1, 1, 2), Step::wedge(1, 1, 3)]);
+    run(&mut state, &[Step::install(1, 1, 1, 0)]);
     assert_eq!(state.trace(seat(1, 2)), Ok(vec![]), "index 1");
     assert_eq!(state.trace(seat(2, 5)), Ok(vec![]), "a pending seat");
     run(&mut state, &[Step::inherit(1, 2, 3, 3), Step::inherit(1, 2, 5, 2), Step::adopt(1, 2, 5)]);
@@ -272,7 +287,7 @@ fn numbers_of_rejections() {
         assert_eq!(rejection.number(), number);
         assert_eq!(Rejection::from_number(number), Some(rejection));
     }
-    assert_eq!((Rejection::from_number(0), Rejection::from_number(24)), (None, None));
-    let text = Rejection::IndexIssued.to_string();
-    assert_eq!(text, "rejection 23: IndexIssued");
+    assert_eq!((Rejection::from_number(0), Rejection::from_number(25)), (None, None));
+    let text = Rejection::NotWedged.to_string();
+    assert_eq!(text, "rejection 24: NotWedged");
 }

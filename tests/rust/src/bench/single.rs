@@ -1,47 +1,13 @@
 //! Steps of each kind, one by one and as one log.
 
-use std::hint::black_box;
-
 use super::clock::{Case, measure};
+use super::installs;
 use super::states::{full, installed};
+use super::steps::{AsLog, Steps};
 use super::table::{Table, ns, ratio};
-use crate::interface::{Interface, Plain};
 use crate::step::Step;
-use crate::testing::logs::push_step;
 use crate::testing::random::Random;
 use crate::view::{ACTIVE, IMMUTABLE, PENDING, SHARD_WORDS, issue};
-
-/// Steps that are all accepted, one after the other, on a prepared state.
-struct Steps {
-    before: Vec<u64>,
-    words: Vec<u64>,
-    steps: Vec<Step>,
-}
-
-impl Case for Steps {
-    fn restore(&mut self) {
-        self.words.copy_from_slice(&self.before);
-    }
-
-    fn run<I: Interface>(&mut self) -> u64 {
-        let words = black_box(&mut self.words);
-        self.steps.iter().map(|&step| I::step(words, step)).sum()
-    }
-
-    fn units(&self) -> usize {
-        self.steps.len()
-    }
-}
-
-impl Steps {
-    fn new(before: Vec<u64>, steps: Vec<Step>) -> Steps {
-        let mut words = before.clone();
-        for &step in &steps {
-            assert_eq!(Plain::step(&mut words, step), 0, "{step:?} is accepted");
-        }
-        Steps { before, words, steps }
-    }
-}
 
 /// Forty takes go to an empty history, in every configuration.
 fn adds(shards: u64) -> Steps {
@@ -85,25 +51,6 @@ fn wedges(random: &mut Random, shards: u64) -> Steps {
     Steps::new(full(random, shards, 0), steps.collect())
 }
 
-/// Each shard's configurations 2 to 8 are installed from the first places of a full stable history.
-fn installs(random: &mut Random, shards: u64) -> Steps {
-    let mut words = super::states::after_setup(super::states::plan(shards));
-    let takes = full(random, shards, 0);
-    let mut steps = Vec::new();
-    for shard in 0..shards {
-        let sequencer = (shard + 1) % shards;
-        let replica = sequencer as usize * SHARD_WORDS + 64;
-        words[replica..][..64].copy_from_slice(&takes[replica..][..64]);
-        words[replica + 2] = 56;
-        for index in 2..=8 {
-            let place = 20 + index;
-            words[replica + 8 + place as usize] = issue(index, shard, 4, 0b1111_0000);
-            steps.push(Step::install(shard, 1, 0, place));
-        }
-    }
-    Steps::new(words, steps)
-}
-
 /// Three pending replicas of each configuration inherit a full history from a wedged one, whose source is that before.
 fn inherits(random: &mut Random, shards: u64) -> Steps {
     beginnings(random, shards, IMMUTABLE, Step::inherit)
@@ -139,57 +86,49 @@ fn beginnings(
     Steps::new(words, steps)
 }
 
-/// The same steps in one log.
-struct AsLog {
-    steps: Steps,
-    log: Vec<u8>,
-}
+/// Steps and the name of their row.
+type Row = (&'static str, Steps);
 
-impl Case for AsLog {
-    fn restore(&mut self) {
-        self.steps.restore();
-    }
-
-    fn run<I: Interface>(&mut self) -> u64 {
-        let mut report = [0; 4];
-        let words = black_box(&mut self.steps.words[..]);
-        I::replay(words, black_box(&self.log), u64::MAX, &mut report) + report[2]
-    }
-
-    fn units(&self) -> usize {
-        self.steps.units()
-    }
-}
-
-impl AsLog {
-    fn new(steps: Steps) -> AsLog {
-        let mut log = Vec::new();
-        steps.steps.iter().for_each(|&step| push_step(&mut log, step));
-        AsLog { steps, log }
-    }
-}
-
-fn cases(shards: u64) -> [(&'static str, Steps); 8] {
+/// Rows of both tables.
+fn cases(shards: u64) -> Vec<Row> {
     let mut random = Random::new(2);
-    [
+    vec![
         ("add, empty to 40 entries", adds(shards)),
         ("add, an issue after 40 takes", issue_adds(shards)),
         ("adopt, 56 entries", adopts(&mut random, shards)),
         ("learn, 1 to 56 entries, 4 replicas", learns(&mut random, shards)),
         ("wedge", wedges(&mut random, shards)),
-        ("install", installs(&mut random, shards)),
         ("inherit, 56 entries", inherits(&mut random, shards)),
         ("catch up, 56 entries", catch_ups(&mut random, shards)),
+        ("install, not wedged (24)", installs::unwedged(&mut random, shards)),
+    ]
+}
+
+/// Rows of the single steps alone: a shard's next install needs other steps between.
+fn single_cases(shards: u64) -> Vec<Row> {
+    let mut random = Random::new(2);
+    let [first, last] = [0, 3].map(|number| installs::wedged(&mut random, shards, number));
+    vec![("install, wedged in its first seat", first), ("install, wedged in its last seat", last)]
+}
+
+/// Rows of the logs alone, which have those steps.
+fn log_cases(shards: u64) -> Vec<Row> {
+    let mut random = Random::new(2);
+    let [first, last] = [0, 3].map(|number| installs::in_turn(&mut random, shards, number));
+    vec![
+        ("install, inherit, wedge in turn, in the first seat", first),
+        ("install, inherit, wedge in turn, in the last seat", last),
     ]
 }
 
 pub fn tables() -> Vec<Table> {
     let mut single = Table::new(
-        "## Single steps\n\nAccepted steps called one by one, each with the whole check of its state, in ns a step.",
+        "## Single steps\n\nSteps called one by one, each with the whole check of its state, in ns a step. All are accepted \
+         but for those with the number of a rejection.",
         &["step", "Z", "proved", "plain", "proved/plain"],
     );
     for shards in [2, 8] {
-        for (name, mut steps) in cases(shards) {
+        for (name, mut steps) in cases(shards).into_iter().chain(single_cases(shards)) {
             let [proved, plain] = measure(&mut steps);
             let times = [ns(proved), ns(plain), ratio(proved, plain)];
             single.row(&[&[name.to_string(), shards.to_string()][..], &times].concat());
@@ -200,7 +139,7 @@ pub fn tables() -> Vec<Table> {
          of one check.",
         &["step", "steps", "proved", "plain", "proved/plain"],
     );
-    for (name, steps) in cases(2) {
+    for (name, steps) in cases(2).into_iter().chain(log_cases(2)) {
         let mut log = AsLog::new(steps);
         let [proved, plain] = measure(&mut log);
         let times = [ns(proved), ns(plain), ratio(proved, plain)];

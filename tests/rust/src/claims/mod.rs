@@ -9,11 +9,14 @@
 //! - no history holds two issues for one shard and index, and no step is rejected with 22;
 //! - every replica after index 1 that is not pending became so by an accepted inherit, with the history and stable
 //!   length of the source, or by an accepted catch-up, with those of a peer that had begun before; its origin names that
-//!   source, or the one that the peer began from, ever since; the source is immutable and stays as it was.
+//!   source, or the one that the peer began from, ever since; the source is immutable and stays as it was;
+//! - every configuration that another one follows has an immutable replica, a source for those that are pending, and
+//!   immutable replicas stay as they are.
 
 mod beginnings;
 mod reference;
 mod violation;
+mod wedges;
 
 use crate::rejection::Rejection;
 use crate::seat::Seat;
@@ -62,12 +65,15 @@ impl Claims {
             return Err(Violation::EarlierIssue);
         }
         let now = View::new(words);
-        let mut begun = Ok(());
+        // Told last, after the other claims.
+        let mut last = Ok(());
         for &shard in &changed {
             let before = View::new(&self.words);
             keeps_replicas(before, now, shard)?;
             issues_once(before, now, shard)?;
-            begun = begun.and(self.beginnings.follow(Change { before, now, step }, shard));
+            last = last
+                .and(self.beginnings.follow(Change { before, now, step }, shard))
+                .and(wedges::check(before, now, shard));
             self.follow(now, shard)?;
             self.remember(now, shard);
         }
@@ -75,8 +81,7 @@ impl Claims {
             self.check_issued(now, shard)?;
             self.check_issued(now, now.sequenced(shard))?;
         }
-        // Last, so that the other claims are told first.
-        begun
+        last
     }
 
     /// The shards with other words than at the last moment.

@@ -29,4 +29,8 @@ pub enum Violation {
     OtherOrigin,
     /// The replica that an origin names is not immutable, or not as it was when it was inherited from.
     SourceChanged,
+    /// A replica that was immutable is not as it was.
+    ImmutableChanged,
+    /// A configuration that another one follows has no immutable replica, so that nobody can inherit from it.
+    NoSource,
 }

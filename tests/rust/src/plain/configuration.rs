@@ -1,6 +1,8 @@
 //! Member sets with their orderers.
 
-use super::layout::{INSTALLED, MEMBERS, ORDERERS, REPLICAS, Replica, Shard, replicas};
+use super::layout::{
+    IMMUTABLE, INSTALLED, MEMBERS, MODE, ORDERERS, REPLICAS, Replica, Shard, replicas,
+};
 
 /// The hosts of one configuration, and which of them orders.
 #[derive(Clone, Copy)]
@@ -50,4 +52,10 @@ pub fn replica_in(shard: &Shard, j: usize, host: u64) -> Option<&Replica> {
 pub fn installed(shard: &Shard, index: u64) -> Option<(Configuration, usize)> {
     let j = index as usize - 1;
     (index <= shard[INSTALLED]).then(|| (Configuration::of_head(shard, j), j * REPLICAS))
+}
+
+/// Whether a replica of the newest configuration is immutable. Those of no member are not: their words are 0.
+pub fn is_wedged(shard: &Shard) -> bool {
+    let j = shard[INSTALLED] as usize - 1;
+    replicas(shard)[j * REPLICAS..][..REPLICAS].iter().any(|replica| replica[MODE] == IMMUTABLE)
 }

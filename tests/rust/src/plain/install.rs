@@ -1,11 +1,12 @@
-use super::configuration::installed;
+use super::configuration::{installed, is_wedged};
 use super::entry::Issue;
 use super::layout::*;
 use super::state::State;
 use crate::rejection::Rejection;
 
 impl State<'_> {
-    /// The issue at a place of a replica of the shard's sequencer becomes the shard's next configuration.
+    /// The issue at a place of a replica of the shard's sequencer becomes the next configuration of the shard, whose
+    /// newest one is wedged.
     pub(super) fn install(
         &mut self,
         shard: usize,
@@ -20,6 +21,9 @@ impl State<'_> {
         let issue = issue_at(stable, place, shard).ok_or(Rejection::NoStableIssue)?;
         if issue.index() != self.shards[shard][INSTALLED] + 1 {
             return Err(Rejection::NotNextIndex);
+        }
+        if !is_wedged(&self.shards[shard]) {
+            return Err(Rejection::NotWedged);
         }
         if stable[..place].iter().any(|&entry| issue.rivals(entry)) {
             return Err(Rejection::EarlierIssue);

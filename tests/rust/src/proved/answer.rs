@@ -3,7 +3,7 @@
 use crate::rejection::Rejection;
 use crate::report::{Report, Stop};
 
-/// The `Result` of an answer's number. The header gives no number above 23.
+/// The `Result` of an answer's number. The header gives no number above 24.
 pub fn result(answer: u64) -> Result<(), Rejection> {
     match answer {
         0 => Ok(()),

@@ -154,10 +154,15 @@ fn wedge(random: &mut Random, view: View, shard: u64) -> Option<Step> {
         true => random.within(1..=installed - 1),
         false => index(random, view, shard),
     };
+    wedge_in(random, view, shard, index)
+}
+
+/// A wedge of a configuration's active replica.
+fn wedge_in(random: &mut Random, view: View, shard: u64, index: u64) -> Option<Step> {
     Some(Step::wedge(shard, index, host(random, view, shard, index, is_active)?))
 }
 
-/// Looks for a stable issue of the next configuration; now and then for any.
+/// An install of a stable issue of the next configuration, or a wedge before it; now and then of any issue.
 fn install(random: &mut Random, view: View, shard: u64) -> Option<Step> {
     let sequencer = view.sequencer(shard);
     if random.chance(ANYHOW) {
@@ -176,7 +181,10 @@ fn install(random: &mut Random, view: View, shard: u64) -> Option<Step> {
         found.extend(places.map(|(place, _)| (replica.index, replica.host, place)));
     }
     let (index, host, place) = random.pick_any(&found)?;
-    Some(Step::install(shard, index, host, place))
+    match view.is_newest_wedged(shard) || random.chance(ANYHOW) {
+        true => Some(Step::install(shard, index, host, place)),
+        false => wedge_in(random, view, shard, view.installed(shard)),
+    }
 }
 
 /// An inherit by a pending replica, or a wedge before it: of the only source, or of one more, which may be behind.
@@ -186,8 +194,7 @@ fn inherit(random: &mut Random, view: View, shard: u64) -> Option<Step> {
     };
     let source = host(random, view, shard, index - 1, is_frozen);
     if source.is_none() || random.chance(25) {
-        let host = host(random, view, shard, index - 1, is_active)?;
-        return Some(Step::wedge(shard, index - 1, host));
+        return wedge_in(random, view, shard, index - 1);
     }
     Some(Step::inherit(shard, index, heir, source?))
 }

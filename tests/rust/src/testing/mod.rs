@@ -8,6 +8,7 @@ pub mod driver;
 pub mod length_vectors;
 mod likely;
 pub mod logs;
+pub mod next;
 pub mod plans;
 pub mod random;
 pub mod script;

@@ -7,7 +7,10 @@ use crate::step::Step;
 use crate::view::{SHARD_WORDS, issue};
 
 /// Shard 0 has hosts 0 and 1, shard 1 has hosts 2 and 3; the lower host orders.
-const PLAN: [u64; 6] = [1, 0b0011, 0, 0, 0b1100, 2];
+pub const PLAN: [u64; 6] = [1, 0b0011, 0, 0, 0b1100, 2];
+
+/// Index 2 of shard 0 is installed, once it is issued.
+pub const INSTALL: Step = Step::install(0, 1, 3, 0);
 
 /// The state at the last moment of a run, and what was seen of it.
 pub struct Script {
@@ -24,16 +27,23 @@ impl Script {
         Script { words, claims }
     }
 
-    /// Index 2 of shard 0 has these hosts, host 4 among them, which orders. All are pending.
-    pub fn installed(hosts: &[u64]) -> Script {
+    /// Index 2 of shard 0 is issued, for `INSTALL`: these hosts, host 4 among them, which orders.
+    pub fn issued(hosts: &[u64]) -> Script {
         let members = hosts.iter().map(|host| 1 << host).sum();
         let mut script = Script::begin();
         script.play(&[
             Step::add(1, 1, issue(2, 0, 4, members)),
             Step::adopt(1, 1, 3),
             Step::learn(1, 1, 3, 1),
-            Step::install(0, 1, 3, 0),
         ]);
+        script
+    }
+
+    /// After steps that wedge index 1 of shard 0 these hosts are installed. All are pending.
+    pub fn installed(steps: &[Step], hosts: &[u64]) -> Script {
+        let mut script = Script::issued(hosts);
+        script.play(steps);
+        script.play(&[INSTALL]);
         script
     }
 

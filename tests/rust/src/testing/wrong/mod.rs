@@ -2,11 +2,13 @@
 //!
 //! Replica words: 0 mode, 1 length, 2 stable length, 3 origin, 8 to 63 entries.
 
+mod installs;
+
 use crate::claims::Violation;
 use crate::plain;
 use crate::rejection::number_of;
 use crate::step::Step;
-use crate::view::{ACTIVE, HISTORY, PENDING, SHARD_WORDS, View, is_issue_for};
+use crate::view::{ACTIVE, HISTORY, PENDING, View};
 
 /// An error that a good engineer makes.
 #[derive(Clone, Copy, Debug, PartialEq, Eq)]
@@ -23,6 +25,10 @@ pub enum Wrong {
     AddRival,
     /// Install takes an issue that is not stable yet.
     InstallUnstable,
+    /// Install where no replica of the newest configuration is immutable.
+    InstallUnwedged,
+    /// Install looks for an immutable replica in the newest configuration of the sequencer.
+    InstallSequencerWedged,
     /// Inherit from a replica that is still active.
     InheritActive,
     /// Adopt copies the orderer's origin.
@@ -36,13 +42,15 @@ pub enum Wrong {
 }
 
 impl Wrong {
-    pub const ALL: [Wrong; 11] = [
+    pub const ALL: [Wrong; 13] = [
         Wrong::AdoptLowers,
         Wrong::AdoptPending,
         Wrong::LearnMajority,
         Wrong::LearnSkipsPending,
         Wrong::AddRival,
         Wrong::InstallUnstable,
+        Wrong::InstallUnwedged,
+        Wrong::InstallSequencerWedged,
         Wrong::InheritActive,
         Wrong::AdoptOrigin,
         Wrong::InheritOrigin,
@@ -56,6 +64,7 @@ impl Wrong {
             Wrong::AdoptLowers | Wrong::AdoptPending => &[Violation::Shrinks],
             Wrong::AddRival => &[Violation::SecondIssue],
             Wrong::InstallUnstable => &[Violation::NotFirstIssue],
+            Wrong::InstallUnwedged | Wrong::InstallSequencerWedged => &[Violation::NoSource],
             Wrong::InheritActive => &[Violation::SourceChanged],
             Wrong::CatchUpPending => &[Violation::WrongBeginning],
             Wrong::AdoptOrigin | Wrong::InheritOrigin | Wrong::CatchUpOrigin => {
@@ -82,7 +91,11 @@ impl Wrong {
                 learn(words, view, step, |alike, pending, size| alike + pending == size)
             }
             (Wrong::AddRival, 1, 23) => add_rival(words, view, step),
-            (Wrong::InstallUnstable, 5, 20) => install_unstable(words, view, step),
+            (Wrong::InstallUnstable, 5, 20) => installs::unstable(words, view, step),
+            (Wrong::InstallUnwedged, 5, 24) => installs::unwedged(words, view, step),
+            (Wrong::InstallSequencerWedged, 5, 0 | 24) => {
+                installs::sequencer_wedged(words, view, step)
+            }
             (Wrong::InheritActive, 6, 13) => inherit_active(words, view, step),
             (Wrong::AdoptOrigin, 2, 0) => adopt_word(words, view, step, 3),
             (Wrong::InheritOrigin, 6, 0) => inherit_origin(words, view, step),
@@ -145,31 +158,6 @@ fn add_rival(words: &mut [u64], view: View, step: Step) -> u64 {
     replica[8 + length] = entry;
     replica[1] += 1;
     0
-}
-
-/// Installs what is issued at a place of the history, stable or not.
-fn install_unstable(words: &mut [u64], view: View, step: Step) -> u64 {
-    let [shard, index, host, at] = step.numbers;
-    let replica = view.replica(view.sequencer(shard), index, host).expect("a member");
-    let next = view.installed(shard) + 1;
-    match replica.history().get(at as usize) {
-        Some(&entry) if next <= 8 && is_issue_for(entry, shard, next) => {
-            install(words, shard, next, entry);
-            0
-        }
-        _ => 20,
-    }
-}
-
-fn install(words: &mut [u64], shard: u64, next: u64, issue: u64) {
-    let block = &mut words[shard as usize * SHARD_WORDS..][..SHARD_WORDS];
-    let members = issue & 0xffff;
-    block[1] = next;
-    block[1 + next as usize] = members;
-    block[9 + next as usize] = issue >> 16 & 0xf;
-    for replica in 0..members.count_ones() as usize {
-        block[64 + (next as usize - 1) * 256 + replica * 64] = PENDING;
-    }
 }
 
 fn inherit_active(words: &mut [u64], view: View, step: Step) -> u64 {
