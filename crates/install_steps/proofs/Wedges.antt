@@ -17,23 +17,27 @@ use Rattle.model.proofs.WellFormedMembers.{size-few, number-in-use}
 use Rattle.lookup.specs.Ready.{Ready}
 use Rattle.lookup.proofs.Fields.{formed}
 
--- none of the first k modes is that of an immutable replica
+-- the mode of replica k of configuration j of shard z
+abbrev modeOf : List ℕ → ℕ → ℕ → ℕ → ℕ
+modeOf w z j k = getD w (z * 2112 + 64 + j * 256 + k * 64) 0
+
+-- none of the first k is that of an immutable replica
 pub record Unwedged (w : List ℕ) (z j k : ℕ) : Type 0 where
   pub few : k ≤ 4
-  pub none : (i : ℕ) → i < k → getD w (z * 2112 + 64 + j * 256 + i * 64) 0 ≡ 3 → ⊥
+  pub none : (i : ℕ) → i < k → modeOf w z j i ≡ 3 → ⊥
 
 pub start : (w : List ℕ) (z j : ℕ) → Unwedged w z j 0
 start w z j = record { few = omega arith; none = λ i h e. omega arith }
 
-pub turn : {w : List ℕ} {z j k : ℕ} → Unwedged w z j k → k < 4 → (getD w (z * 2112 + 64 + j * 256 + k * 64) 0 ≡ 3 → ⊥) → Unwedged w z j (k + 1)
+pub turn : {w : List ℕ} {z j k : ℕ} → Unwedged w z j k → k < 4 → (modeOf w z j k ≡ 3 → ⊥) → Unwedged w z j (k + 1)
 turn {w} {z} {j} {k} u h n = record { few = omega arith; none = λ i l e. go i l e (decLt i k) }
   where
-    go : (i : ℕ) → i < k + 1 → getD w (z * 2112 + 64 + j * 256 + i * 64) 0 ≡ 3 → Dec (i < k) → ⊥
+    go : (i : ℕ) → i < k + 1 → modeOf w z j i ≡ 3 → Dec (i < k) → ⊥
     go i l e (yes q) = u .none i q e
     go i l e (no q) = let s : i ≡ k = omega arith in n (rw s at e)
 
 module _ {w : List ℕ} {z j : ℕ} (r : Ready w z j) where
-  pub found : {k : ℕ} → k < 4 → getD w (z * 2112 + 64 + j * 256 + k * 64) 0 ≡ 3 → true ≡ isWedged w z j
+  pub found : {k : ℕ} → k < 4 → modeOf w z j k ≡ 3 → true ≡ isWedged w z j
   unfolding isWedged place
   found {k} h e =
       let used = number-in-use (formed (r .state)) (r .shard) (r .configuration) h (omega (arith, e, mode-word w (place z j k))) in

@@ -1,6 +1,6 @@
 -- Install on a safe state: the next configuration becomes pending, and is the first issue for its shard and index.
 -- Assumes nothing.
-use Prim.Native.Nat.{ℕ, suc, _+_, _-_, _*_, _≤_, _<_}
+use Prim.Native.Nat.{ℕ, suc, _+_, _*_, _≤_, _<_}
 use native.Mathlib.Nat.{le-of-eq, lt-of-lt-of-le}
 use native.Mathlib.Omega.{arith}
 use native.Mathlib.Decide.{ℕ-discrete, decLt}
@@ -13,12 +13,11 @@ use borrow.Author.Tests.{eqb-true}
 use Rattle.model.specs.Members.{size, replicaNumber, isConfiguration}
 use Rattle.model.specs.Entries.{issue, isIssue, issueIndex, issueShard, issueOrderer, issueMembers, names, firstIssue}
 use Rattle.model.specs.Replicas.{Replica, readReplica, stablePrefix, isImmutable, pending, unused}
-use Rattle.model.specs.Layout.{place, headWord, sequencer, installed, members, orderer, replicaAt}
-use Rattle.model.specs.Install.{issuer, issuedAt, noneBefore, isWedged, isNewestWedged, installChecks, installNext, installEffect}
+use Rattle.model.specs.Layout.{headWord, sequencer, installed, members, orderer, replicaAt}
+use Rattle.model.specs.Install.{issuer, issuedAt, noneBefore, installChecks, installNext, installEffect}
 use Rattle.model.specs.StableHistory.{stableHistory}
 use Rattle.model.specs.Prefixes.{Begins}
 use Rattle.model.specs.OneList.{shards}
-use Rattle.model.proofs.Tests.{any-below}
 use Rattle.model.proofs.Checks.{AllPass}
 use Rattle.model.proofs.Parts.{read-words}
 use Rattle.model.proofs.Prefixes.{begins-refl, begins-getD}
@@ -35,7 +34,7 @@ use Rattle.model.proofs.WellFormed.{size-of}
 use Rattle.model.proofs.WellFormedParts.{vacant-unused, part-vacant}
 use Rattle.model.proofs.WellFormedMembers.{configured, size-few}
 use Rattle.model.proofs.InstallNext.{next-length, next-other, next-installed, next-members, next-orderer, next-pending, next-parts}
-use Rattle.model.proofs.WellFormedInstall.{old-vacant, issuer-proper, issue-proper, stable-issue, next-index}
+use Rattle.model.proofs.WellFormedInstall.{old-vacant, issuer-proper, issue-proper, wedged-tells, stable-issue, next-index}
 use Rattle.model.proofs.SeatedReplica.{member-view}
 use Rattle.model.proofs.Safe.{Safe, Issued, Wedged}
 use Rattle.model.proofs.Kept.{From, stood, Kept, formed, each-shard, sequencer-below, inv-same, issued-stays, wedged-stays}
@@ -291,12 +290,10 @@ module _ {w : List ℕ} {offers : ℕ → List ℕ} (x : Safe w offers) {z j : �
 
   -- a replica of the newest configuration is immutable
   newest-wedged : (a : ℕ) → suc a ≡ installed w z → Wedged w z a
-  unfolding installChecks isNewestWedged isWedged isImmutable
+  unfolding installChecks isImmutable
   newest-wedged a e =
-      let newest : installed w z - 1 ≡ a = omega (arith, e) in
-      let tested : isNewestWedged w z ≡ true = search in
+      let found = wedged-tells w z a e (search) in
       let few = size-few (formed x) hz below in
-      let found = any-below (size (members w z a)) (λ k. isImmutable (replicaAt w (place z a k))) (rw newest at tested) in
       record {
         number = found .number;
         isImmutable = rw (view-in w z below (lt-of-lt-of-le (found .small) few)) (eqb-true _ 3 (found .passes));

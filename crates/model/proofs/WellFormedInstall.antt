@@ -1,5 +1,5 @@
 -- Install keeps a state well-formed: the next configuration gets proper head words and pending replicas.
-use Prim.Native.Nat.{ℕ, _+_, _-_, _≤_, _<_}
+use Prim.Native.Nat.{ℕ, suc, _+_, _-_, _≤_, _<_}
 use native.Mathlib.Omega.{arith}
 use native.Mathlib.Decide.{ℕ-discrete, decLt}
 use mathlib.Core.Path.{_≡_, sym, ap, _∙_, subst, subst₂}
@@ -9,13 +9,13 @@ use lib.Dec.{ltb, eqb}
 use borrow.Author.Tests.{ltb-true, lt-ltb, le-ltb, eqb-true}
 use Rattle.model.specs.Members.{size, hasMember, replicaNumber, isConfiguration}
 use Rattle.model.specs.Entries.{isIssue, isIssueFor, issueIndex, issueShard, issueOrderer, issueMembers}
-use Rattle.model.specs.Replicas.{readReplica, isPending, pending}
+use Rattle.model.specs.Replicas.{readReplica, isPending, isImmutable, pending}
 use Rattle.model.specs.Layout.{shardsOf, place, sequencer, installed, isInstalled, members, orderer, part, replicaAt}
 use Rattle.model.specs.Inherit.{source}
 use Rattle.model.specs.Origins.{isOriginOf}
 use Rattle.model.specs.WellFormed.{isPart, isSequencer, isHeadOf}
-use Rattle.model.specs.Install.{issuer, issuedAt, isStableIssue, installChecks, installNext, installEffect}
-use Rattle.model.proofs.Tests.{both, and-left, and-right}
+use Rattle.model.specs.Install.{issuer, issuedAt, isStableIssue, isWedged, isNewestWedged, installChecks, installNext, installEffect}
+use Rattle.model.proofs.Tests.{both, and-left, and-right, Below, any-below}
 use Rattle.model.proofs.Checks.{AllPass}
 use Rattle.model.proofs.Entries.{ProperIssue, proper-issue}
 use Rattle.model.proofs.InstallNext.{next-length, next-other, next-installed, next-members, next-orderer, next-pending, next-parts}
@@ -232,6 +232,14 @@ stable-tells w z j h p t =
     let tests : (ltb p (issuer w z j h .stable) ≡ true) × (isIssue (issuedAt w z j h p) ≡ true) × (eqb (issueShard (issuedAt w z j h p)) z ≡ true) =
     search (and-left, and-right) in
     (ltb-true p (issuer w z j h .stable) (tests .0), tests .1, eqb-true (issueShard (issuedAt w z j h p)) z (tests .2))
+
+-- the test of 24: a replica of configuration a, which is the newest, is immutable
+pub wedged-tells : (w : List ℕ) (z a : ℕ) → suc a ≡ installed w z → isNewestWedged w z ≡ true
+    → Below (size (members w z a)) (λ k. isImmutable (replicaAt w (place z a k)))
+unfolding isNewestWedged isWedged
+wedged-tells w z a e t =
+    let newest : installed w z - 1 ≡ a = omega (arith, e) in
+    any-below (size (members w z a)) (λ k. isImmutable (replicaAt w (place z a k))) (rw newest at t)
 
 module _ {Z : ℕ} {w : List ℕ} (f : WellFormed Z w) {z j : ℕ} (hz : z < Z) (hj : j < 8) (h p : ℕ) (c : AllPass (installChecks w z j h p)) where
   pub issuer-proper : Proper Z j (issuer w z j h)

@@ -27,11 +27,11 @@ isStableIssue w z j h p = ltb p (issuer w z j h .stable) && isIssueFor z (issued
 unfoldable pub noneBefore : ℕ → ℕ → ℕ → List ℕ → Bool
 noneBefore z i p l = allBelow p (λ q. not (names z i (getD l q 0)))
 
--- request A6, "Install now needs an immutable seat in the zone's newest configuration": a replica of configuration j of shard z is immutable, and so for
--- the newest one
+-- configuration j of shard z has "an immutable seat"
 unfoldable pub isWedged : List ℕ → ℕ → ℕ → Bool
 isWedged w z j = anyBelow (size (members w z j)) (λ k. isImmutable (replicaAt w (place z j k)))
 
+-- request A6, "Install now needs an immutable seat in the zone's newest configuration", that of the highest index installed
 unfoldable pub isNewestWedged : List ℕ → ℕ → Bool
 isNewestWedged w z = isWedged w z (installed w z - 1)
 
