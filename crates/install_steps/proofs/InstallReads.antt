@@ -38,6 +38,9 @@ sequencer-ready {w} {z} {j} {h} r =
       host = r .host;
     }
 
+pub installed-least : {w : List ℕ} {z j : ℕ} → Ready w z j → 1 ≤ getD w (z * 2112 + 1) 0
+installed-least {w} {z} {j} r = omega (arith, installed-word w z, formed (r .state) .head z (r .shard) .least)
+
 pub installed-few : {w : List ℕ} {z j : ℕ} → Ready w z j → getD w (z * 2112 + 1) 0 ≤ 8
 installed-few {w} {z} {j} r = omega (arith, installed-word w z, formed (r .state) .head z (r .shard) .most)
 

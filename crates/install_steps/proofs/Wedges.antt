@@ -16,6 +16,7 @@ use Rattle.model.proofs.Heads.{installed-word}
 use Rattle.model.proofs.WellFormedMembers.{size-few, number-in-use}
 use Rattle.lookup.specs.Ready.{Ready}
 use Rattle.lookup.proofs.Fields.{formed}
+use Rattle.install_steps.proofs.InstallReads.{installed-few}
 
 -- the mode of replica k of configuration j of shard z
 abbrev modeOf : List ℕ → ℕ → ℕ → ℕ → ℕ
@@ -51,16 +52,8 @@ module _ {w : List ℕ} {z j : ℕ} (r : Ready w z j) where
 
 -- ---- the newest configuration
 
-pub installed-least : {w : List ℕ} {z j : ℕ} → Ready w z j → 1 ≤ getD w (z * 2112 + 1) 0
-installed-least {w} {z} r = omega (arith, installed-word w z, formed (r .state) .head z (r .shard) .least)
-
 pub newest-ready : {w : List ℕ} {z j : ℕ} → Ready w z j → Ready w z (getD w (z * 2112 + 1) 0 - 1)
-newest-ready {w} {z} r =
-    record {
-      state = r .state;
-      shard = r .shard;
-      configuration = omega (arith, installed-word w z, formed (r .state) .head z (r .shard) .most);
-    }
+newest-ready r = record { state = r .state; shard = r .shard; configuration = omega (arith, installed-few r) }
 
 pub newest-is : (w : List ℕ) (z : ℕ) → isWedged w z (getD w (z * 2112 + 1) 0 - 1) ≡ isNewestWedged w z
 unfolding isNewestWedged

@@ -9,10 +9,9 @@ use mathlib.Core.Bool.{true}
 use mathlib.Core.List.{List}
 use lib.Dec.{lit≤, lit<}
 use lib.ListN.{length, getD}
-use borrow.Author.Tests.{eqb-true}
 use Rattle.model.specs.Members.{size, replicaNumber, isConfiguration}
 use Rattle.model.specs.Entries.{issue, isIssue, issueIndex, issueShard, issueOrderer, issueMembers, names, firstIssue}
-use Rattle.model.specs.Replicas.{Replica, readReplica, stablePrefix, isImmutable, pending, unused}
+use Rattle.model.specs.Replicas.{Replica, readReplica, stablePrefix, pending, unused}
 use Rattle.model.specs.Layout.{headWord, sequencer, installed, members, orderer, replicaAt}
 use Rattle.model.specs.Install.{issuer, issuedAt, noneBefore, installChecks, installNext, installEffect}
 use Rattle.model.specs.StableHistory.{stableHistory}
@@ -36,6 +35,7 @@ use Rattle.model.proofs.WellFormedMembers.{configured, size-few}
 use Rattle.model.proofs.InstallNext.{next-length, next-other, next-installed, next-members, next-orderer, next-pending, next-parts}
 use Rattle.model.proofs.WellFormedInstall.{old-vacant, issuer-proper, issue-proper, wedged-tells, stable-issue, next-index}
 use Rattle.model.proofs.SeatedReplica.{member-view}
+use Rattle.model.proofs.ProperReplicas.{immutable-mode}
 use Rattle.model.proofs.Safe.{Safe, Issued, Wedged}
 use Rattle.model.proofs.Kept.{From, stood, Kept, formed, each-shard, sequencer-below, inv-same, issued-stays, wedged-stays}
 
@@ -290,13 +290,13 @@ module _ {w : List ℕ} {offers : ℕ → List ℕ} (x : Safe w offers) {z j : �
 
   -- a replica of the newest configuration is immutable
   newest-wedged : (a : ℕ) → suc a ≡ installed w z → Wedged w z a
-  unfolding installChecks isImmutable
+  unfolding installChecks
   newest-wedged a e =
       let found = wedged-tells w z a e (search) in
       let few = size-few (formed x) hz below in
       record {
         number = found .number;
-        isImmutable = rw (view-in w z below (lt-of-lt-of-le (found .small) few)) (eqb-true _ 3 (found .passes));
+        isImmutable = rw (view-in w z below (lt-of-lt-of-le (found .small) few)) (immutable-mode _ (found .passes));
       }
     where
       below : a < 8

@@ -6,7 +6,7 @@ use mathlib.Core.Path.{_≡_, refl, sym, ap, subst}
 use mathlib.Core.Bool.{true, false, not}
 use mathlib.Core.List.{List, [], _∷_}
 use lib.Dec.{ltb}
-use borrow.Author.Tests.{ltb-true, eqb-true, eqb-false, not-true}
+use borrow.Author.Tests.{ltb-true, eqb-false, not-true}
 use lib.Arith.{lt-of-le-ne}
 use lib.ListN.{length, take, length-append}
 use Rattle.model.specs.Tests.{contains}
@@ -34,15 +34,10 @@ use Rattle.model.proofs.StateViews.{view, view-in, InView, inside, outs
 use Rattle.model.proofs.WellFormedMembers.{orderer-is-member, number-in-use, member-proper}
 use Rattle.model.proofs.SeatedReplica.{number-small, member-view}
 use Rattle.model.proofs.Safe.{Safe}
-use Rattle.model.proofs.ProperReplicas.{active-mode, pending-mode}
+use Rattle.model.proofs.ProperReplicas.{active-mode, pending-mode, immutable-mode}
 use Rattle.model.proofs.Alike.{every-alike, alike-long, alike-begins}
 use Rattle.model.proofs.Kept.{From, stood, inherits, catchesUp, Kept, formed}
 use Rattle.model.proofs.KeptPut.{kept-put}
-
--- a mode by its test
-immutable-mode : (r : Replica) → isImmutable r ≡ true → r .mode ≡ 3
-unfolding isImmutable
-immutable-mode r e = eqb-true (r .mode) 3 e
 
 added-short : (e : ℕ) (r : Replica) → length (r .history) < 56 → length (added e r .history) ≤ 56
 unfolding added

@@ -8,7 +8,7 @@ use lib.ListN.{length, length-append}
 use borrow.Author.Tests.{eqb-true}
 use Rattle.model.specs.Tests.{allOf}
 use Rattle.model.specs.Entries.{isEntry}
-use Rattle.model.specs.Replicas.{Replica, isPending, isActive, fresh, pending, added, adopted, learned, wedged, inherited, caughtUp}
+use Rattle.model.specs.Replicas.{Replica, isPending, isActive, isImmutable, fresh, pending, added, adopted, learned, wedged, inherited, caughtUp}
 use Rattle.model.proofs.Tests.{both}
 use Rattle.model.proofs.WellFormedParts.{Proper, all-append}
 
@@ -19,6 +19,10 @@ active-mode r e = eqb-true (r .mode) 2 e
 pub pending-mode : (r : Replica) → isPending r ≡ true → r .mode ≡ 1
 unfolding isPending
 pending-mode r e = eqb-true (r .mode) 1 e
+
+pub immutable-mode : (r : Replica) → isImmutable r ≡ true → r .mode ≡ 3
+unfolding isImmutable
+immutable-mode r e = eqb-true (r .mode) 3 e
 
 -- a replica that is active or immutable
 running : (Z j : ℕ) (r : Replica) → 2 ≤ r .mode → r .mode ≤ 3 → length (r .history) ≤ 56 → r .stable ≤ length (r .history)

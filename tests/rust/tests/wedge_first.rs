@@ -8,26 +8,32 @@ use penkwadar_tests::plain;
 use penkwadar_tests::seat::Seat;
 use penkwadar_tests::step::Step;
 use penkwadar_tests::testing::both;
+use penkwadar_tests::testing::coverage::ANSWERS;
 use penkwadar_tests::testing::next::write_next;
 use penkwadar_tests::testing::plans::{configuration, plan};
 use penkwadar_tests::testing::random::Random;
-use penkwadar_tests::testing::script::PLAN;
+use penkwadar_tests::testing::script::{INSTALL, PLAN};
 use penkwadar_tests::testing::seats::{all_seats, rejection};
 use penkwadar_tests::testing::settings;
 use penkwadar_tests::testing::states::well_formed;
 use penkwadar_tests::testing::steps::any_step;
 use penkwadar_tests::testing::temper::Temper;
 use penkwadar_tests::testing::twin::Twin;
-use penkwadar_tests::view::{ACTIVE, IMMUTABLE, PENDING, SHARD_WORDS, View, issue, issued_for};
+use penkwadar_tests::view::{
+    ACTIVE, HISTORY, IMMUTABLE, PENDING, SHARD_WORDS, View, issue, issued_for,
+};
 
 /// The highest index.
 const LAST: u64 = 8;
+
+/// A place behind the last one that a history can have.
+const BEHIND: u64 = HISTORY as u64;
 
 /// The answer on a well-formed state to an install from a seat of the sequencer: 10, 11, 20, 21, 24, 22, after the range
 /// of all numbers.
 fn answer(view: View, shard: u64, seat: Seat, place: u64) -> u64 {
     match rejection(view, seat) {
-        0 | 10 | 11 if place > 55 => 7,
+        0 | 10 | 11 if place >= BEHIND => 7,
         0 => {
             let replica = view.replica(seat.shard, seat.index, seat.host).expect("a member");
             answer_at(view, shard, replica.stable(), place as usize)
@@ -54,7 +60,7 @@ fn answer_at(view: View, shard: u64, stable: &[u64], place: usize) -> u64 {
 /// What installs met.
 #[derive(Debug, Default)]
 struct Met {
-    answers: [u64; 25],
+    answers: [u64; ANSWERS],
     /// Ones rejected with 24 although replicas of an older index, or of the sequencer's newest one, are immutable.
     older: u64,
     sequencer: u64,
@@ -97,8 +103,8 @@ fn issue_often(random: &mut Random, words: &mut [u64], shard: u64) {
 /// Every host of every index of the sequencer, with all places; where the host has no replica, with few.
 fn seats_and_places(view: View, shard: u64) -> impl Iterator<Item = (Seat, u64)> {
     all_seats(view.sequencer(shard)).flat_map(move |seat| {
-        let first = if rejection(view, seat) == 0 { 0 } else { 55 };
-        (first..=56).map(move |place| (seat, place))
+        let first = if rejection(view, seat) == 0 { 0 } else { BEHIND - 1 };
+        (first..=BEHIND).map(move |place| (seat, place))
     })
 }
 
@@ -239,7 +245,7 @@ const ISSUED: [(Step, u64); 4] = [
     (Step::adopt(1, 1, 3), 0),
     (Step::learn(1, 1, 3, 2), 0),
 ];
-const INSTALL_2: Step = Step::install(0, 1, 3, 0);
+/// .. and after `INSTALL` index 3 is installed so.
 const INSTALL_3: Step = Step::install(0, 1, 3, 1);
 
 /// Immutable replicas of index 1 do not count for index 3, nor do pending and active ones of index 2.
@@ -247,8 +253,8 @@ const INSTALL_3: Step = Step::install(0, 1, 3, 1);
 fn wedged_in_an_older_index() {
     let mut state = after_setup();
     play(&mut state, &ISSUED);
-    play(&mut state, &[(INSTALL_2, 24), (Step::wedge(0, 1, 0), 0), (Step::wedge(0, 1, 1), 0)]);
-    play(&mut state, &[(INSTALL_2, 0), (INSTALL_3, 24), (Step::wedge(0, 2, 5), 12)]);
+    play(&mut state, &[(INSTALL, 24), (Step::wedge(0, 1, 0), 0), (Step::wedge(0, 1, 1), 0)]);
+    play(&mut state, &[(INSTALL, 0), (INSTALL_3, 24), (Step::wedge(0, 2, 5), 12)]);
     play(&mut state, &[(Step::inherit(0, 2, 5, 1), 0), (INSTALL_3, 24)]);
     play(&mut state, &[(Step::catch_up(0, 2, 4, 5), 0), (INSTALL_3, 24)]);
     play(&mut state, &[(Step::wedge(0, 2, 5), 0), (INSTALL_3, 0)]);
@@ -259,8 +265,8 @@ fn wedged_in_an_older_index() {
 fn wedged_in_the_sequencer() {
     let mut state = after_setup();
     play(&mut state, &ISSUED);
-    play(&mut state, &[(Step::wedge(1, 1, 2), 0), (Step::wedge(1, 1, 3), 0), (INSTALL_2, 24)]);
-    play(&mut state, &[(Step::wedge(0, 1, 1), 0), (INSTALL_2, 0)]);
+    play(&mut state, &[(Step::wedge(1, 1, 2), 0), (Step::wedge(1, 1, 3), 0), (INSTALL, 24)]);
+    play(&mut state, &[(Step::wedge(0, 1, 1), 0), (INSTALL, 0)]);
 }
 
 /// What is asked first, on a state that no setup leads to: host 2 of shard 1 has an issue for index 3 of shard 0, and
@@ -272,7 +278,7 @@ fn order_of_rejections() {
     state.edit(|words| write_issues(words, &issues));
     let install = |place| Step::install(0, 1, 2, place);
     play(&mut state, &[(Step::install(0, 2, 2, 1), 10), (Step::install(0, 1, 4, 1), 11)]);
-    play(&mut state, &[(install(56), 7), (install(3), 20), (install(0), 21)]);
+    play(&mut state, &[(install(BEHIND), 7), (install(3), 20), (install(0), 21)]);
     play(&mut state, &[(install(1), 24), (install(2), 24), (Step::wedge(0, 1, 0), 0)]);
     play(&mut state, &[(install(0), 21), (install(2), 22), (install(1), 0)]);
 }

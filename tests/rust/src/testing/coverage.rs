@@ -25,7 +25,7 @@ pub const REJECTIONS: [&[u64]; KINDS] = [
 pub const NEVER_FROM_SETUP: u64 = 22;
 
 /// Answers are below this.
-const ANSWERS: usize = 25;
+pub const ANSWERS: usize = 25;
 
 #[derive(Default)]
 pub struct Coverage {

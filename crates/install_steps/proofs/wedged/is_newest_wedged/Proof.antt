@@ -1,6 +1,7 @@
 -- `install_steps::wedged::is_newest_wedged` meets its contract.
 use mathlib.Core.Path.{_∙_}
-use Rattle.install_steps.proofs.Wedges.{installed-least, newest-ready, newest-is}
+use Rattle.install_steps.proofs.InstallReads.{installed-least}
+use Rattle.install_steps.proofs.Wedges.{newest-ready, newest-is}
 use borrow.Author.Needs.{needs}
 use Rattle.install_steps.proofs.wedged.is_newest_wedged.Statement.{statement}
 use Rattle.install_steps.proofs.wedged.is_newest_wedged.Tie as tie
