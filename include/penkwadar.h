@@ -19,7 +19,8 @@
  * WHAT IT NEEDS. The archive is for x86-64 with the System V calling convention, as `rt staticlib` builds it. It calls
  * memcpy, memmove and memset, which a program without a C library has to supply, and nothing else. It has no data of
  * its own: any threads may call it at the same time on distinct buffers. A call needs less than PENKWADAR_STACK_BYTES
- * of stack, and penkwadar_transcript less than PENKWADAR_TRANSCRIPT_STACK_BYTES. None of its instructions divides. */
+ * of stack, penkwadar_replay_tally less than PENKWADAR_TALLY_STACK_BYTES, and penkwadar_transcript less than
+ * PENKWADAR_TRANSCRIPT_STACK_BYTES. None of its instructions divides. */
 #ifndef PENKWADAR_H
 #define PENKWADAR_H
 
@@ -31,6 +32,7 @@ extern "C" {
 #endif
 
 #define PENKWADAR_STACK_BYTES 512
+#define PENKWADAR_TALLY_STACK_BYTES 768
 #define PENKWADAR_TRANSCRIPT_STACK_BYTES 77824
 
 /* ---- Zones, boxes, indices and entries ----
@@ -162,6 +164,19 @@ uint64_t penkwadar_step(uint64_t *state, size_t state_len, uint64_t kind, uint64
  * Rejections, with nothing tried and the report as it was: 8 (report_len below 4), then 1, then 9. */
 uint64_t penkwadar_replay(uint64_t *state, size_t state_len, const uint8_t *log, size_t log_len, uint64_t budget,
                           uint64_t *report, size_t report_len);
+
+/* Rejected steps told by box: a tally has a word for each box, at the place of its number, and one for no box. */
+#define PENKWADAR_TALLY_WORDS 17
+#define PENKWADAR_TALLY_NO_BOX 16
+
+/* Does what penkwadar_replay does, and counts the steps rejected: the first PENKWADAR_TALLY_WORDS words of tally start
+ * from zero, and in the end their sum is the report's third word. A step counts for the box that is its third number,
+ * whatever else is wrong with it, and for no box where that number is above 15. An add counts for the orderer of its
+ * zone and index, and for no box where it gets 7 or 10.
+ * Rejections, with nothing tried, and report and tally as they were: 8 (report_len below 4, or tally_len below
+ * PENKWADAR_TALLY_WORDS), then 1, then 9. */
+uint64_t penkwadar_replay_tally(uint64_t *state, size_t state_len, const uint8_t *log, size_t log_len, uint64_t budget,
+                                uint64_t *report, size_t report_len, uint64_t *tally, size_t tally_len);
 
 /* Reads the step at a position of a log. The first six words of step become: kind, the four numbers, and the position
  * after the step. At the end (no bytes left) all six become 0; kind 0 is no step's.

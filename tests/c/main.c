@@ -360,6 +360,43 @@ static void check_replay(void)
     CHECK(seat(0, 0)[1] == 1 && seat(0, 1)[1] == 0);
 }
 
+static int tally_is(const uint64_t *tally, uint64_t of_box_0, uint64_t of_box_5, uint64_t of_no_box)
+{
+    uint64_t expected[PENKWADAR_TALLY_WORDS] = {0};
+    expected[0] = of_box_0;
+    expected[5] = of_box_5;
+    expected[PENKWADAR_TALLY_NO_BOX] = of_no_box;
+    return memcmp(tally, expected, sizeof expected) == 0 && tally[PENKWADAR_TALLY_WORDS] == UNWRITTEN;
+}
+
+/* Rejections told by box. */
+static void check_replay_tally(void)
+{
+    /* Box 5 is no member, also of a zone that is not there; box 16 is none; an index that is not installed; box 0, the
+     * orderer, has the take already. The last step has no end. */
+    static const uint8_t log[] = {4, 0, 1, 5, 4, 2, 1, 5, 4, 0, 1, 16, 1, 0, 2, 7, 1, 0, 1, 7, 1, 0, 1, 7, 4};
+    uint64_t report[5], tally[PENKWADAR_TALLY_WORDS + 1];
+    memset(report, 0xee, sizeof report);
+    memset(tally, 0xee, sizeof tally);
+    CHECK(penkwadar_setup(state, WORDS, plan, 6) == 0);
+    memcpy(before, state, sizeof state);
+    CHECK(penkwadar_replay_tally(state, 0, log, 25, 9, report, 3, tally, 17) == PENKWADAR_OUTPUT_SHORT);
+    CHECK(penkwadar_replay_tally(state, 0, log, 25, 9, report, 5, tally, 16) == PENKWADAR_OUTPUT_SHORT);
+    CHECK(penkwadar_replay_tally(state, 0, log, 25, 9, report, 5, tally, 18) == PENKWADAR_STATE_LENGTH);
+    state[3] = before[3] = 1;
+    CHECK(penkwadar_replay_tally(state, WORDS, log, 25, 9, report, 5, tally, 18) == PENKWADAR_NOT_WELL_FORMED);
+    CHECK(state_unchanged() && all_words(report, 5, UNWRITTEN) && all_words(tally, 18, UNWRITTEN));
+    state[3] = 0;
+
+    CHECK(penkwadar_replay_tally(state, WORDS, log, 25, UINT64_MAX, report, 5, tally, 18) == PENKWADAR_BYTES_END);
+    CHECK(report_is(report, PENKWADAR_DAMAGED, 6, 5, 24) && tally_is(tally, 1, 2, 2));
+    CHECK(seat(0, 0)[1] == 1 && seat(0, 0)[8] == 7);
+    CHECK(penkwadar_replay_tally(state, WORDS, log, 24, 1, report, 5, tally, 18) == 0);
+    CHECK(report_is(report, PENKWADAR_SPENT, 1, 1, 4) && tally_is(tally, 0, 1, 0));
+    CHECK(penkwadar_replay_tally(state, WORDS, log, 24, 0, report, 5, tally, 18) == 0);
+    CHECK(report_is(report, PENKWADAR_SPENT, 0, 0, 0) && tally_is(tally, 0, 0, 0));
+}
+
 static void check_transcript(void)
 {
     const size_t length = sizeof sample_text - 1;
@@ -393,6 +430,7 @@ int main(void)
     check_read();
     check_write();
     check_replay();
+    check_replay_tally();
     check_transcript();
     printf("c: %u checks, %u failed\n", checks, failed);
     return failed == 0 ? EXIT_SUCCESS : EXIT_FAILURE;

@@ -1,6 +1,6 @@
 /* How much stack each function needs: it is called on a painted stack, and what is no longer painted is counted. The
- * header's two numbers have to be above what is found. Prints one line, and ends with status 1 where one of them is not,
- * or a call is rejected. */
+ * header's three numbers have to be above what is found. Prints one line, and ends with status 1 where one of them is
+ * not, or a call is rejected. */
 #define _GNU_SOURCE
 #include <stdio.h>
 #include <stdlib.h>
@@ -23,7 +23,7 @@ static const uint64_t steps[STEPS][5] = {{PENKWADAR_ADD, 0, 1, ISSUE, 0},  {PENK
                                          {PENKWADAR_CATCH_UP, 1, 2, 5, 3}};
 
 static unsigned char stack[STACK];
-static uint64_t state[WORDS], words[PENKWADAR_LIST_ENTRIES], count[1], answers;
+static uint64_t state[WORDS], words[PENKWADAR_LIST_ENTRIES], tally[PENKWADAR_TALLY_WORDS], count[1], answers;
 static uint8_t text[PENKWADAR_TEXT_BYTES], steps_log[64];
 static size_t log_len, turn;
 static ucontext_t caller, callee;
@@ -41,6 +41,9 @@ static void write_step(void) {
 }
 static void read_step(void) { answers += penkwadar_read_step(steps_log, log_len, 0, words, 6); }
 static void replay(void) { answers += penkwadar_replay(state, WORDS, steps_log, log_len, 99, words, 4); }
+static void replay_tally(void) {
+    answers += penkwadar_replay_tally(state, WORDS, steps_log, log_len, 99, words, 4, tally, PENKWADAR_TALLY_WORDS);
+}
 static void prefix(void) { answers += penkwadar_stable_prefix(state, WORDS, 0, 1, 1, words, 56, count, 1); }
 static void history(void) { answers += penkwadar_stable_history(state, WORDS, 0, words, 56, count, 1); }
 static void trace(void) { answers += penkwadar_trace(state, WORDS, 1, 2, 3, words, 56, count, 1); }
@@ -74,9 +77,16 @@ int main(void) {
     most = larger(most, larger(used(setup), used(read_step)));
     most = larger(most, used(replay));
     int accepted = words[0] == PENKWADAR_ENDED && words[1] == STEPS && words[2] == 0;
+    size_t tallies = used(replay_tally);
+    accepted = accepted && words[2] == STEPS - 1; /* once more, all are rejected but the adopt */
+    setup();
+    tallies = larger(tallies, used(replay_tally));
+    accepted = accepted && words[2] == 0;
     size_t around = used(nothing), transcripts = used(transcript) - around;
     most -= around;
-    printf("stack: at most %zu bytes, a transcript %zu\n", most, transcripts);
-    int enough = most < PENKWADAR_STACK_BYTES && transcripts < PENKWADAR_TRANSCRIPT_STACK_BYTES;
+    tallies -= around;
+    printf("stack: at most %zu bytes, a tally %zu, a transcript %zu\n", most, tallies, transcripts);
+    int enough = most < PENKWADAR_STACK_BYTES && tallies < PENKWADAR_TALLY_STACK_BYTES &&
+                 transcripts < PENKWADAR_TRANSCRIPT_STACK_BYTES;
     return accepted && answers == 0 && enough ? EXIT_SUCCESS : EXIT_FAILURE;
 }

@@ -2,4 +2,5 @@
 pub mod Reports
 pub mod Counts
 pub mod StepWords
+pub mod TallyOutputs
 pub mod TraceOutputs

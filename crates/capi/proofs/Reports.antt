@@ -16,6 +16,7 @@ use Rattle.model.specs.Replay.{replayRejection, report}
 use Rattle.model.specs.Results.{stopNumber, stopCode}
 use Rattle.replay.proofs.Whole.{Reports}
 use Rattle.transcript.proofs.LogSizes.{LogStop, log-sized}
+use Rattle.capi.specs.Words.{wordsBy, reportedWords}
 use Rattle.capi.specs.Replays.{reportWords, replayAnswer, stateAfter, reportAfter}
 
 -- a replay was made, however it stopped
@@ -59,14 +60,33 @@ module _ (w log : List ℕ) (budget : ℕ) (out : List ℕ) where
     unfolding stateAfter
     state-is = rw (le-leb _ _ h) (e .1 .1 .1 .1 .1 .1)
 
-    pub reported : wasMade s ≡ true → {words : List ℕ} → words ≡ sets out 0 (stopCode s ∷ x .tried ∷ x .rejected ∷ x .bytes ∷ [])
+    reported : wasMade s ≡ true → {words : List ℕ} → words ≡ sets out 0 (stopCode s ∷ x .tried ∷ x .rejected ∷ x .bytes ∷ [])
         → (stopNumber s ≡ replayAnswer w log budget out) × ((v ≡ stateAfter w log budget out) × (words ≡ reportAfter w log budget out))
     unfolding reportAfter reportWords
     reported m q =
         let counts = rw (← p, e .1 .0, e .1 .1 .0, e .1 .1 .1 .0, e .1 .1 .1 .1 .0) at q in
         (answer-is, (state-is, rw (le-leb _ _ h, made, m) counts))
 
-    pub not-made : wasMade s ≡ false
-        → (stopNumber s ≡ replayAnswer w log budget out) × ((v ≡ stateAfter w log budget out) × (out ≡ reportAfter w log budget out))
+    not-made : wasMade s ≡ false → {words : List ℕ} → words ≡ out
+        → (stopNumber s ≡ replayAnswer w log budget out) × ((v ≡ stateAfter w log budget out) × (words ≡ reportAfter w log budget out))
     unfolding reportAfter
-    not-made m = (answer-is, (state-is, rw (le-leb _ _ h, made, m)))
+    not-made m q = (answer-is, (state-is, q ∙ rw (le-leb _ _ h, made, m)))
+
+  -- .. as they are put into the output
+  pub told : 4 ≤ length out → {x : Report} {v : List ℕ} → Reports w log budget x v → {r : ℕ} {words : List ℕ}
+      → (r ≡ stopNumber (x .stop)) × (words ≡ sets out 0 (reportedWords x))
+      → (r ≡ replayAnswer w log budget out) × ((v ≡ stateAfter w log budget out) × (words ≡ reportAfter w log budget out))
+  unfolding reportedWords wordsBy wasMade
+  told h {x} {v} e {r} {words} q = go (x .stop) refl (q .1)
+    where
+      all : {s : Stop} → x .stop ≡ s
+          → (stopNumber s ≡ replayAnswer w log budget out) × ((v ≡ stateAfter w log budget out) × (words ≡ reportAfter w log budget out))
+          → (r ≡ replayAnswer w log budget out) × ((v ≡ stateAfter w log budget out) × (words ≡ reportAfter w log budget out))
+      all p t = (q .0 ∙ ap stopNumber p ∙ t .0, t .1)
+
+      go : (s : Stop) → x .stop ≡ s → words ≡ sets out 0 (wordsBy s (stopCode s ∷ x .tried ∷ x .rejected ∷ x .bytes ∷ []))
+          → (r ≡ replayAnswer w log budget out) × ((v ≡ stateAfter w log budget out) × (words ≡ reportAfter w log budget out))
+      go Ended p c = all p (reported h e p refl c)
+      go Spent p c = all p (reported h e p refl c)
+      go (Damaged n) p c = all p (reported h e p refl c)
+      go (Rejected n) p c = all p (not-made h e p refl c)

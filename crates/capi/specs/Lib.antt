@@ -4,6 +4,7 @@ pub mod Replays
 pub mod Counts
 pub mod Words
 pub mod Steps
+pub mod Tallies
 pub mod Lists
 pub mod Transcripts
 pub mod Spreadsheets

@@ -5,6 +5,7 @@ mod replays;
 mod spreadsheets;
 mod state;
 mod steps;
+mod tallies;
 mod traces;
 mod transcripts;
 mod words;

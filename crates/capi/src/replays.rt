@@ -1,6 +1,5 @@
 // The replay of a log.
-use crate::words::put_report;
-use model::Stop;
+use crate::words::put_replay;
 ghost use mathlib.Core.Path.{_≡_};
 ghost use Rattle.capi.specs.Replays.{replayAnswer, stateAfter, reportAfter};
 
@@ -19,21 +18,5 @@ pub extern "C" fn penkwadar_replay(
     if report.len() < 4 {
         return 8;
     }
-    let r = replay::replay(state, log, budget);
-    let stop = r.stop;
-    match stop {
-        Stop::Ended => {
-            put_report(report, 0, r.tried, r.rejected, r.bytes);
-            0
-        }
-        Stop::Spent => {
-            put_report(report, 1, r.tried, r.rejected, r.bytes);
-            0
-        }
-        Stop::Damaged(n) => {
-            put_report(report, 2, r.tried, r.rejected, r.bytes);
-            n
-        }
-        Stop::Rejected(n) => n,
-    }
+    put_replay(report, replay::replay(state, log, budget))
 }

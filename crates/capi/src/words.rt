@@ -1,14 +1,16 @@
 // Words at the start of an output.
 use histories::Listing;
+use model::Report;
+use model::Stop;
 use model::Writing;
 ghost use mathlib.Core.Path.{_≡_};
 ghost use mathlib.Core.List.{[], _∷_};
 ghost use Prim.Native.Nat.{_≤_};
 ghost use lib.ListN.{length};
 ghost use lib.Seq.{sets};
-ghost use Rattle.model.specs.Results.{writingNumber};
+ghost use Rattle.model.specs.Results.{stopNumber, writingNumber};
 ghost use Rattle.histories.specs.Listing.{listingNumber};
-ghost use Rattle.capi.specs.Words.{writingWord, listingWord};
+ghost use Rattle.capi.specs.Words.{reportedWords, writingWord, listingWord};
 
 // The four words of a report.
 pub fn put_report(out: &mut [u64], stop: u64, tried: u64, rejected: u64, bytes: u64)
@@ -19,6 +21,30 @@ pub fn put_report(out: &mut [u64], stop: u64, tried: u64, rejected: u64, bytes: 
     out[1] = tried;
     out[2] = rejected;
     out[3] = bytes;
+}
+
+// The report of a replay, and 0 or the number of the damage; or the rejection, and no word.
+pub fn put_replay(out: &mut [u64], report: Report) -> u64
+    requires { ⌜ 4 ≤ length (now out) ⌝ }
+    ensures { λ r. ⌜ r ≡ stopNumber (report .stop) ⌝ }
+    ensures { λ _. ⌜ now (out .exit) ≡ sets (now (out .entry)) 0 (reportedWords report) ⌝ }
+{
+    let stop = report.stop;
+    match stop {
+        Stop::Ended => {
+            put_report(out, 0, report.tried, report.rejected, report.bytes);
+            0
+        }
+        Stop::Spent => {
+            put_report(out, 1, report.tried, report.rejected, report.bytes);
+            0
+        }
+        Stop::Damaged(n) => {
+            put_report(out, 2, report.tried, report.rejected, report.bytes);
+            n
+        }
+        Stop::Rejected(n) => n,
+    }
 }
 
 // The six words of a step that was read.

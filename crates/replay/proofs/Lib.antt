@@ -1,4 +1,8 @@
--- Laws of the run.
+-- Laws of the run, and of its tally.
+pub mod Named
 pub mod Rest
 pub mod Running
+pub mod Tallies
+pub mod TallyLaws
+pub mod Turning
 pub mod Whole

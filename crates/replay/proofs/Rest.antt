@@ -19,20 +19,7 @@ use Rattle.model.specs.Steps.{rejection, after}
 use Rattle.model.specs.Log.{readStep, from, readAt, withStep, stopped, isEmpty, logAfter, readLog}
 use Rattle.model.specs.Replay.{afterAll, rejectedIn}
 use Rattle.model.proofs.RoundTrip.{step-least, step-within}
-use Rattle.replay.specs.Run.{reported, runReport, afterRun}
-
--- counts before a report's
-pub counted : ℕ → ℕ → ℕ → Report → Report
-counted t r b x = reported (x .stop) (t + x .tried) (r + x .rejected) (b + x .bytes)
-
--- at position `at`, with `tried` steps tried, `rejected` of them rejected, and the state w
-pub record Rest (w₀ log : List ℕ) (budget : ℕ) (w : List ℕ) (at tried rejected : ℕ) : Type 0 where
-  pub left : tried ≤ budget
-  pub within : at ≤ length log
-  pub fewer : rejected ≤ tried
-  pub advanced : tried ≤ at
-  pub report-is : runReport w₀ log budget ≡ counted tried rejected at (runReport w (drop at log) (budget - tried))
-  pub state-is : afterRun w₀ log budget ≡ afterRun w (drop at log) (budget - tried)
+use Rattle.replay.specs.Run.{reported, runReport, afterRun, counted, Rest}
 
 pub rest-start : (w log : List ℕ) (budget : ℕ) → Rest w log budget w 0 0 0
 unfolding counted
@@ -47,7 +34,7 @@ rest-start w log budget =
     }
 
 -- what was read at a position
-read-step : (log : List ℕ) (at : ℕ) (s : Step) (next : ℕ) → readAt log at ≡ Read s next
+pub read-step : (log : List ℕ) (at : ℕ) (s : Step) (next : ℕ) → readAt log at ≡ Read s next
     → (n : ℕ) × (readStep (drop at log) ≡ Read s n) × (next ≡ at + n)
 unfolding readAt from
 read-step log at s next e = go (readStep (drop at log)) refl e

@@ -14,7 +14,8 @@ use Rattle.model.specs.Steps.{rejection, after}
 use Rattle.model.specs.Log.{readAt}
 use Rattle.model.proofs.WellFormedSteps.{kept, step-length}
 use Rattle.lookup.specs.Ready.{Formed}
-use Rattle.replay.proofs.Rest.{Rest, rest-start, rest-step}
+use Rattle.replay.specs.Run.{Running}
+use Rattle.replay.proofs.Rest.{rest-start, rest-step}
 
 -- a well-formed state stays so
 formed-after : {w : List ℕ} → Formed w → (s : Step) → Formed (after w s)
@@ -25,11 +26,6 @@ formed-after {w} f s =
       most = rw (step-length w s) (f .most);
       long = rw (step-length w s) (f .long);
     }
-
-pub record Running (w₀ log : List ℕ) (budget : ℕ) (w : List ℕ) (at tried rejected : ℕ) : Type 0 where
-  pub rest : Rest w₀ log budget w at tried rejected
-  pub formed : Formed w
-  pub long : length w ≡ length w₀
 
 pub start : (w log : List ℕ) (budget : ℕ) → Formed w → Running w log budget w 0 0 0
 start w log budget f = record { rest = rest-start w log budget; formed = f; long = refl }

@@ -28,20 +28,20 @@ Reports w log budget r v =
     × ((r .rejected ≡ rejectedIn w (replayed w log budget))
     × ((r .bytes ≡ replayBytes w log budget) × ((r ≡ report w log budget) × (v ≡ afterReplay w log budget))))))
 
+pub reports : (w log : List ℕ) (budget : ℕ) {x : Report} {v : List ℕ} → x ≡ report w log budget → v ≡ afterReplay w log budget → Reports w log budget x v
+reports w log budget p q =
+    let t = replays w log budget p in
+    (t .number, (t .code, (t .tried, (t .rejected, (t .bytes, (p, q))))))
+
 -- r is what the test of the state answered
 module _ (w log : List ℕ) (budget : ℕ) {r : ℕ} (e : r ≡ replayRejection w) where
-  reports : {x : Report} {v : List ℕ} → x ≡ report w log budget → v ≡ afterReplay w log budget → Reports w log budget x v
-  reports p q =
-      let t = replays w log budget p in
-      (t .number, (t .code, (t .tried, (t .rejected, (t .bytes, (p, q))))))
-
   pub rejects : (r ≡ 0 → ⊥) → Reports w log budget (reported (Rejected r) 0 0 0) w
   unfolding report afterReplay replayed afterAll
-  rejects n = reports (rw (sym e, ne-eqb r 0 n)) (rw (sym e, ne-eqb r 0 n))
+  rejects n = reports w log budget (rw (sym e, ne-eqb r 0 n)) (rw (sym e, ne-eqb r 0 n))
 
   pub runs : r ≡ 0 → {x : Report} {v : List ℕ} → (x ≡ runReport w log budget) × (v ≡ afterRun w log budget) → Reports w log budget x v
   unfolding report afterReplay replayed runReport afterRun
-  runs z p = reports (p .0 ∙ rw (sym e, eq-eqb r 0 z)) (p .1 ∙ rw (sym e, eq-eqb r 0 z))
+  runs z p = reports w log budget (p .0 ∙ rw (sym e, eq-eqb r 0 z)) (p .1 ∙ rw (sym e, eq-eqb r 0 z))
 
   pub formed : r ≡ 0 → Formed w
   unfolding replayRejection isStateLength

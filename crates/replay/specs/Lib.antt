@@ -1,2 +1,6 @@
--- The run inside a replay, on a state that is known to be well-formed.
+-- What a replay reports and leaves is in the crate `model`; here are its tally and what the functions inside require.
+pub mod Counts
 pub mod Run
+pub mod Tally
+pub mod TallyLaws
+pub mod Turns

@@ -1,4 +1,8 @@
 // The log run: steps are read and tried in order, on a state that is scanned once.
+pub mod tallied;
+pub mod tally;
+mod turns;
+
 use model::Reading;
 use model::Report;
 use model::Stop;

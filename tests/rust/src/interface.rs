@@ -7,6 +7,7 @@ use crate::rejection::{Rejection, number_of};
 use crate::report::{Report, Stop};
 use crate::seat::Seat;
 use crate::step::Step;
+use crate::tally::Tally;
 use crate::{plain, proved::ffi};
 
 pub trait Interface {
@@ -14,6 +15,13 @@ pub trait Interface {
     fn setup(state: &mut [u64], plan: &[u64]) -> u64;
     fn step(state: &mut [u64], step: Step) -> u64;
     fn replay(state: &mut [u64], log: &[u8], budget: u64, report: &mut [u64]) -> u64;
+    fn replay_tally(
+        state: &mut [u64],
+        log: &[u8],
+        budget: u64,
+        report: &mut [u64],
+        tally: &mut [u64],
+    ) -> u64;
     fn read_step(log: &[u8], at: usize, step: &mut [u64]) -> u64;
     fn write_step(out: &mut [u8], at: usize, step: Step, count: &mut [u64]) -> u64;
     fn stable_history(state: &[u64], shard: u64, out: &mut [u64], count: &mut [u64]) -> u64;
@@ -45,6 +53,17 @@ impl Interface for Proved {
     #[inline]
     fn replay(state: &mut [u64], log: &[u8], budget: u64, report: &mut [u64]) -> u64 {
         ffi::replay(state, log, budget, report)
+    }
+
+    #[inline]
+    fn replay_tally(
+        state: &mut [u64],
+        log: &[u8],
+        budget: u64,
+        report: &mut [u64],
+        tally: &mut [u64],
+    ) -> u64 {
+        ffi::replay_tally(state, log, budget, report, tally)
     }
 
     #[inline]
@@ -107,13 +126,25 @@ impl Interface for Plain {
         let Some(report) = report.first_chunk_mut() else {
             return Rejection::OutputShort.number();
         };
-        match plain::replay(state, log, budget) {
-            Ok(told) => {
-                *report = report_words(&told);
-                damage(told.stop)
-            }
-            Err(rejection) => rejection.number(),
-        }
+        reported(plain::replay(state, log, budget), report)
+    }
+
+    #[inline(never)]
+    fn replay_tally(
+        state: &mut [u64],
+        log: &[u8],
+        budget: u64,
+        report: &mut [u64],
+        tally: &mut [u64],
+    ) -> u64 {
+        let (Some(report), Some(words)) = (report.first_chunk_mut(), tally.first_chunk_mut())
+        else {
+            return Rejection::OutputShort.number();
+        };
+        let mut tally = Tally::from_words(*words);
+        let replayed = plain::replay_tally(state, log, budget, &mut tally);
+        *words = tally.words();
+        reported(replayed, report)
     }
 
     #[inline(never)]
@@ -158,6 +189,17 @@ impl Interface for Plain {
     #[inline(never)]
     fn transcript(log: &[u8], out: &mut [u8], count: &mut [u64]) -> u64 {
         counted(count, || plain::transcript(log, out))
+    }
+}
+
+/// Writes the report of a replay, if it was not rejected; gives the answer.
+fn reported(replayed: Result<Report, Rejection>, report: &mut [u64; 4]) -> u64 {
+    match replayed {
+        Ok(told) => {
+            *report = report_words(&told);
+            damage(told.stop)
+        }
+        Err(rejection) => rejection.number(),
     }
 }
 

@@ -11,5 +11,6 @@ pub mod rejection;
 pub mod report;
 pub mod seat;
 pub mod step;
+pub mod tally;
 pub mod testing;
 pub mod view;

@@ -48,9 +48,14 @@ fn fresh_state() -> Twin<u64> {
     state
 }
 
+/// Replays without and with a tally, which do the same.
 fn replay(log: &[u8], budget: u64) -> (Replayed, Twin<u64>) {
-    let mut state = fresh_state();
-    (both::replay(&mut state, log, budget), state)
+    let (mut state, mut told) = (fresh_state(), fresh_state());
+    let replayed = both::replay(&mut state, log, budget);
+    let tallied = both::replay_tally(&mut told, log, budget);
+    assert_eq!(tallied.replayed, replayed, "{log:02x?} with a tally");
+    assert!(told.get() == state.get(), "state of {log:02x?} with a tally");
+    (replayed, state)
 }
 
 /// The state after so many whole steps, and how many of them were rejected.

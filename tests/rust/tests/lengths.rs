@@ -56,11 +56,12 @@ fn shard_answers(state: &mut Twin<u64>, shard: u64) -> [u64; 4] {
     [added, history, prefix, trace]
 }
 
-/// What the others answer, but for setup: replay, csv.
-fn state_answers(state: &mut Twin<u64>) -> [u64; 2] {
+/// What the others answer, but for setup: replay without and with a tally, csv.
+fn state_answers(state: &mut Twin<u64>) -> [u64; 3] {
     let mut text = Twin::filled(HEADER_BYTES, UNWRITTEN_BYTE);
     let replayed = both::replay(state, &[], 0).answer;
-    [replayed, both::csv(state, &mut text, 1).err().unwrap_or(ACCEPTED)]
+    let tallied = both::replay_tally(state, &[], 0).replayed.answer;
+    [replayed, tallied, both::csv(state, &mut text, 1).err().unwrap_or(ACCEPTED)]
 }
 
 /// Replays a step of the last shard and one of a shard more; gives how many it tried and rejected.
@@ -89,7 +90,7 @@ fn try_lengths(lengths: &[usize]) -> usize {
             assert_eq!(both::setup(&mut state, plan), of_setup, "setup on {length} words");
         }
         assert_eq!(shard_answers(&mut state, 0), [of_others; 4], "{length} words");
-        assert_eq!(state_answers(&mut state), [of_others; 2], "{length} words");
+        assert_eq!(state_answers(&mut state), [of_others; 3], "{length} words");
         among += usize::from(of_others != LENGTH);
     }
     among
@@ -121,7 +122,7 @@ fn shards_of_each_length() {
         assert_eq!(both::setup(&mut state, &plan(shards)), ACCEPTED, "{shards} shards");
         assert_eq!(shard_answers(&mut state, shards - 1), [ACCEPTED; 4], "{shards} shards");
         assert_eq!(shard_answers(&mut state, shards), [RANGE; 4], "{shards} shards");
-        assert_eq!(state_answers(&mut state), [ACCEPTED; 2], "{shards} shards");
+        assert_eq!(state_answers(&mut state), [ACCEPTED; 3], "{shards} shards");
         assert_eq!(replay_last_and_more(&mut state, shards), [2, 1], "{shards} shards");
     }
 }

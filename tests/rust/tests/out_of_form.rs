@@ -1,4 +1,4 @@
-//! States of a wrong length or form, with every kind of step, replay and trace.
+//! States of a wrong length or form, with every kind of step, replay, with and without a tally, and trace.
 
 use penkwadar_tests::seat::Seat;
 use penkwadar_tests::step::Step;
@@ -35,10 +35,13 @@ struct Found {
 }
 
 impl Found {
-    /// Tries every kind of step, a replay and a trace on a state; all of them find it well-formed, or none.
+    /// Tries every kind of step, both replays and a trace on a state; all of them find it well-formed, or none.
     fn try_all(&mut self, state: &mut Twin<u64>, contents: &[u64]) -> bool {
         let replayed = both::replay(state, &LOG, u64::MAX);
         let rejected = replayed.answer == 9;
+        restore(state, contents, !rejected);
+        let tallied = both::replay_tally(state, &LOG, u64::MAX);
+        assert_eq!(tallied.replayed, replayed, "with and without a tally");
         restore(state, contents, !rejected);
         for step in STEPS {
             let answer = both::step(state, step);
@@ -197,7 +200,10 @@ fn wrong_lengths() {
         for step in STEPS.into_iter().chain([Step::default(), Step::new(8, [u64::MAX; 4])]) {
             assert_eq!(both::step(&mut state, step), 1, "{step:?} on {length} words");
         }
-        assert_eq!(both::replay(&mut state, &LOG, 1).answer, 1, "replay on {length} words");
+        let replayed = both::replay(&mut state, &LOG, 1);
+        assert_eq!(replayed.answer, 1, "replay on {length} words");
+        let tallied = both::replay_tally(&mut state, &LOG, 1);
+        assert_eq!(tallied.replayed, replayed, "replay with a tally on {length} words");
         let traced = both::trace(&mut state, SEAT, &mut Twin::filled(7, 5), 1);
         assert_eq!(traced, Err(1), "trace on {length} words");
     }

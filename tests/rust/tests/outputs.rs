@@ -1,17 +1,18 @@
 //! Stable histories, transcripts and reports: what they hold, and outputs that are too short.
 
+use penkwadar_tests::plain;
 use penkwadar_tests::step::Step;
+use penkwadar_tests::testing::any_log::any_log;
 use penkwadar_tests::testing::both;
 use penkwadar_tests::testing::logs::{push_step, spoil};
 use penkwadar_tests::testing::random::Random;
 use penkwadar_tests::testing::seats::{any_seat, rejection};
 use penkwadar_tests::testing::settings;
 use penkwadar_tests::testing::states::{spoil_state, well_formed};
-use penkwadar_tests::testing::steps::{any_step, odd_number};
+use penkwadar_tests::testing::steps::odd_number;
 use penkwadar_tests::testing::temper::Temper;
 use penkwadar_tests::testing::twin::Twin;
 use penkwadar_tests::view::{SHARD_WORDS, View};
-use penkwadar_tests::{plain, testing::logs};
 
 #[test]
 fn stable_histories() {
@@ -97,17 +98,8 @@ fn stable_prefixes() {
 fn program_log(random: &mut Random) -> Vec<u8> {
     let mut words = vec![0; 2 * SHARD_WORDS];
     plain::setup(&mut words, &[1, 0b0011, 0, 0, 0b1100, 2]).expect("the program's plan");
-    let mut state = plain::State::check(&mut words).expect("a state after setup");
-    let temper = Temper::any(random);
-    let mut log = Vec::new();
-    for _ in 0..random.below(800) {
-        let step = any_step(random, View::new(state.words()), &temper);
-        if logs::is_writable(step) {
-            // Only to lead to the next step.
-            let _ = state.step(step);
-            push_step(&mut log, step);
-        }
-    }
+    let (temper, steps) = (Temper::any(random), random.below(800));
+    let mut log = any_log(random, &words, &temper, steps);
     if random.chance(40) {
         spoil(random, &mut log);
     }
@@ -223,6 +215,8 @@ fn budgets() {
     ];
     for (log, budget, answer, [stop, tried, bytes]) in cases {
         let replayed = both::replay(&mut Twin::new(&good), log, budget);
+        let tallied = both::replay_tally(&mut Twin::new(&good), log, budget);
+        assert_eq!(tallied.replayed, replayed, "with a tally: {log:?} with {budget}");
         let report = replayed.report.expect("a report");
         assert_eq!(replayed.answer, answer, "{log:?} with {budget}");
         assert_eq!(

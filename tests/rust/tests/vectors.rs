@@ -4,6 +4,7 @@ use penkwadar_tests::interface::{Interface, Plain, Proved};
 use penkwadar_tests::testing::length_vectors::{
     HistoryVector, LengthVector, ReplayVector, SetupVector, length_vectors,
 };
+use penkwadar_tests::testing::tally_vectors::tally_vectors;
 use penkwadar_tests::testing::vectors::{
     CsvVector, Outputs, StepVector, TraceVector, csv_vectors, fnv, program_vectors, step_vectors,
     trace_vectors,
@@ -57,6 +58,16 @@ fn plain_lengths() {
 #[test]
 fn proved_lengths() {
     lengths::<Proved>();
+}
+
+#[test]
+fn plain_tallies() {
+    tallies::<Plain>();
+}
+
+#[test]
+fn proved_tallies() {
+    tallies::<Proved>();
 }
 
 fn steps<I: Interface>() {
@@ -125,7 +136,7 @@ fn lengths<I: Interface>() {
                 histories += 1;
             }
             LengthVector::Replay(vector) => {
-                replay::<I>(number, vector);
+                replay(number, vector, I::replay);
                 replays += 1;
             }
         }
@@ -150,10 +161,28 @@ fn history<I: Interface>(number: u64, HistoryVector { words, shard, outputs }: H
     read(number, &words, unwritten(outputs.out_len), outputs, call);
 }
 
-fn replay<I: Interface>(number: u64, mut vector: ReplayVector) {
+fn tallies<I: Interface>() {
+    let vectors = tally_vectors();
+    assert!(vectors.len() >= 300, "only {} vectors", vectors.len());
+    for (number, vector) in (1..).zip(vectors) {
+        let mut tally = unwritten(vector.tally_len);
+        let expected = begun(&tally, &vector.tally);
+        replay(number, vector.replay, |words, log, budget, report| {
+            I::replay_tally(words, log, budget, report, &mut tally)
+        });
+        assert_eq!(tally, expected, "tally of vector {number}");
+    }
+}
+
+/// Makes a call that replays a log and writes a report.
+fn replay(
+    number: u64,
+    mut vector: ReplayVector,
+    call: impl FnOnce(&mut [u64], &[u8], u64, &mut [u64]) -> u64,
+) {
     let mut report = unwritten(vector.report_len);
     let expected = begun(&report, &vector.report);
-    let answer = I::replay(&mut vector.words, &vector.log, vector.budget, &mut report);
+    let answer = call(&mut vector.words, &vector.log, vector.budget, &mut report);
     assert_eq!(answer, vector.answer, "answer of vector {number}");
     assert_eq!(report, expected, "report of vector {number}");
     assert_eq!(fnv(&vector.words), vector.check, "state of vector {number}");

@@ -1,8 +1,8 @@
 //! The safe wrappers of the proved machine, on the cases that document 01 lists.
 
 use penkwadar_tests::proved::{
-    LONGEST_LOG, Rejection, Report, Seat, State, Step, Stop, read_step, state_words, transcript,
-    write_step,
+    LONGEST_LOG, Rejection, Report, Seat, State, Step, Stop, Tally, read_step, state_words,
+    transcript, write_step,
 };
 use penkwadar_tests::view::{View, issue};
 
@@ -250,6 +250,35 @@ fn replay_of_the_sample() {
     assert_eq!(state().replay(&SAMPLE, 5), Ok(report(Stop::Spent, 5, 0, 22)));
     let damaged = Stop::Damaged(Rejection::BytesEnd);
     assert_eq!(state().replay(&SAMPLE[..25], 65_535), Ok(report(damaged, 5, 0, 22)));
+}
+
+/// Support staff see which boxes are turned back: in the sample box 0, which is wedged.
+#[test]
+fn rejections_by_box() {
+    let mut tally = Tally::default();
+    let report = state().replay(&SAMPLE, u64::MAX);
+    assert_eq!(state().replay_tally(&SAMPLE, u64::MAX, &mut tally), report);
+    assert_eq!((tally.of(0), tally.unnamed(), tally.total()), (1, 0, 1));
+
+    let log = [4, 0, 1, 5, 4, 0, 1, 16, 4, 0, 1, 5, 1, 0, 2, 7, 4, 0];
+    let report =
+        Report { stop: Stop::Damaged(Rejection::BytesEnd), tried: 4, rejected: 4, bytes: 16 };
+    let mut replayed = state();
+    assert_eq!(replayed.replay_tally(&log, u64::MAX, &mut tally), Ok(report));
+    assert_eq!((tally.of(5), tally.unnamed(), tally.total()), (2, 2, 4), "from zero");
+    assert_eq!((tally.of(0), tally.of(16)), (0, 0));
+
+    let before = tally;
+    replayed.words_mut()[0] = 0;
+    let answer = replayed.replay_tally(&log, u64::MAX, &mut tally);
+    assert_eq!(answer, Err(Rejection::NotWellFormed));
+    let mut short = replayed.into_words();
+    short.pop();
+    let answer = State::from_words(short).replay_tally(&log, u64::MAX, &mut tally);
+    assert_eq!(answer, Err(Rejection::StateLength));
+    assert_eq!(tally, before, "untouched");
+    assert!(state().replay_tally(&log, 0, &mut tally).is_ok());
+    assert_eq!(tally, Tally::default(), "nothing tried");
 }
 
 #[test]

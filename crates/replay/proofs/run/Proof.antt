@@ -4,8 +4,9 @@ use native.Mathlib.Omega.{arith}
 use mathlib.Core.Path.{sym, _∙_}
 use mathlib.Core.Logic.{⊎-elim}
 use borrow.Author.Needs.{needs}
+use Rattle.replay.specs.Run.{Running}
 use Rattle.replay.proofs.Rest.{rest-end, rest-damaged, rest-ended, rest-spent}
-use Rattle.replay.proofs.Running.{Running, start, turn-rejected, turn-accepted}
+use Rattle.replay.proofs.Running.{start, turn-rejected, turn-accepted}
 use Rattle.replay.proofs.run.Statement.{statement}
 use Rattle.replay.proofs.run.Tie as tie
 

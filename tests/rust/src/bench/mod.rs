@@ -11,6 +11,7 @@ mod single;
 mod states;
 mod steps;
 mod table;
+mod tally;
 mod trace;
 mod transcripts;
 
@@ -19,11 +20,12 @@ use table::Table;
 /// A part of the benchmark: its name, and what measures it.
 type Part = (&'static str, fn() -> Vec<Table>);
 
-const PARTS: [Part; 8] = [
+const PARTS: [Part; 9] = [
     ("check", check::tables),
     ("steps", single::tables),
     ("codec", codec::tables),
     ("replays", replays::tables),
+    ("tally", tally::tables),
     ("transcripts", transcripts::tables),
     ("csv", csv::tables),
     ("trace", trace::tables),

@@ -7,6 +7,7 @@ use super::states::{after_setup, pairs, plan};
 use super::table::{Table, ns, ratio};
 use crate::interface::Interface;
 use crate::plain;
+use crate::tally::TALLY_WORDS;
 use crate::testing::logs::{is_writable, push_step};
 use crate::testing::random::Random;
 use crate::testing::steps::any_step;
@@ -14,27 +15,29 @@ use crate::testing::temper::Temper;
 use crate::view::View;
 
 /// Replays of fresh logs on a state after setup.
-struct Replays {
+pub struct Replays {
     random: Random,
     /// What logs are made for.
     source: Vec<u64>,
     before: Vec<u64>,
     words: Vec<u64>,
     temper: &'static Temper,
-    steps: usize,
-    log: Log,
+    /// Whether steps that are rejected are left out of logs.
+    accepted_only: bool,
+    pub steps: usize,
+    pub log: Log,
 }
 
 /// The bytes of steps, how many are rejected, and how many are catch-ups that are accepted.
 #[derive(Default)]
-struct Log {
+pub struct Log {
     bytes: Vec<u8>,
-    rejected: u64,
+    pub rejected: u64,
     caught_up: u64,
 }
 
 /// Steps of all kinds but catch-ups.
-const MIXED: Temper = Temper {
+pub const MIXED: Temper = Temper {
     kinds: [40, 20, 20, 2, 8, 10, 0],
     arbitrary: 2,
     disturbed: 3,
@@ -43,6 +46,10 @@ const MIXED: Temper = Temper {
     replays: 0,
 };
 
+/// Adds, adopts and learns; whatever the state has become, some adopt is accepted.
+const GROWING: Temper =
+    Temper { kinds: [40, 30, 30, 0, 0, 0, 0], arbitrary: 0, disturbed: 0, ..MIXED };
+
 /// Steps of all kinds, with configurations that follow each other quickly.
 const CHANGING: Temper = Temper { kinds: [10, 25, 25, 2, 20, 10, 10], issues: 80, ..MIXED };
 
@@ -50,7 +57,7 @@ impl Case for Replays {
     fn refresh(&mut self) {
         let mut words = self.source.clone();
         let mut state = plain::State::check(&mut words).expect("a state after setup");
-        self.log = mixed_log(&mut self.random, &mut state, self.temper, self.steps);
+        self.log = self.fresh_log(&mut state);
     }
 
     fn restore(&mut self) {
@@ -70,13 +77,28 @@ impl Case for Replays {
 }
 
 impl Replays {
+    /// The same replay with a tally.
+    pub fn run_tally<I: Interface>(&mut self) -> u64 {
+        let (mut report, mut tally) = ([0; 4], [0; TALLY_WORDS]);
+        let (words, log) = (black_box(&mut self.words[..]), black_box(&self.log.bytes[..]));
+        let answer = I::replay_tally(words, log, u64::MAX, &mut report, &mut tally);
+        let counts = (1..).zip(tally).map(|(number, count)| number * count);
+        answer + report.iter().sum::<u64>() + counts.sum::<u64>()
+    }
+
     fn new(shards: u64, steps: usize) -> Replays {
         let before = after_setup(plan(shards));
         Replays::with(before.clone(), before, steps)
     }
 
-    fn changing(shards: u64, steps: usize) -> Replays {
-        Replays { temper: &CHANGING, ..Replays::new(shards, steps) }
+    /// Logs of adds, adopts and learns that are all accepted.
+    pub fn accepted(shards: u64, steps: usize) -> Replays {
+        Replays { accepted_only: true, ..Replays::of_temper(&GROWING, shards, steps) }
+    }
+
+    /// Logs that the temper inclines to.
+    pub fn of_temper(temper: &'static Temper, shards: u64, steps: usize) -> Replays {
+        Replays { temper, ..Replays::new(shards, steps) }
     }
 
     /// Logs made for two shards, on a state of more.
@@ -91,26 +113,30 @@ impl Replays {
             words: before.clone(),
             before,
             temper: &MIXED,
+            accepted_only: false,
             steps,
             log: Log::default(),
         }
     }
-}
 
-/// So many steps.
-fn mixed_log(random: &mut Random, state: &mut plain::State, temper: &Temper, steps: usize) -> Log {
-    let (mut log, mut written) = (Log::default(), 0);
-    while written < steps {
-        let step = any_step(random, View::new(state.words()), temper);
-        if is_writable(step) {
+    /// So many steps.
+    fn fresh_log(&mut self, state: &mut plain::State) -> Log {
+        let (mut log, mut written) = (Log::default(), 0);
+        while written < self.steps {
+            let step = any_step(&mut self.random, View::new(state.words()), self.temper);
+            if !is_writable(step) {
+                continue;
+            }
             let accepted = state.step(step).is_ok();
-            log.rejected += u64::from(!accepted);
-            log.caught_up += u64::from(accepted && step.is_catch_up());
-            push_step(&mut log.bytes, step);
-            written += 1;
+            if accepted || !self.accepted_only {
+                log.rejected += u64::from(!accepted);
+                log.caught_up += u64::from(accepted && step.is_catch_up());
+                push_step(&mut log.bytes, step);
+                written += 1;
+            }
         }
+        log
     }
-    log
 }
 
 /// The cells of a row.
@@ -164,7 +190,7 @@ fn changing() -> Table {
         &[&COLUMNS[..], &["caught up (last)"]].concat(),
     );
     for (shards, steps) in [(2, 100), (2, 1_000), (8, 1_000), (8, 10_000)] {
-        let mut replays = Replays::changing(shards, steps);
+        let mut replays = Replays::of_temper(&CHANGING, shards, steps);
         let cells = cells(&mut replays);
         table.row(&[cells, vec![replays.log.caught_up.to_string()]].concat());
     }

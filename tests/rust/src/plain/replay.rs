@@ -8,16 +8,16 @@ use crate::step::Step;
 
 /// Scans the state once, then reads and tries steps, as many as the budget allows.
 pub fn replay(words: &mut [u64], log: &[u8], budget: u64) -> Result<Report, Rejection> {
-    Ok(State::check(words)?.replay(log, budget, |_, _| ()))
+    Ok(State::check(words)?.replay(log, budget, |_, _, _| ()))
 }
 
 impl State<'_> {
-    /// Hands each step that is tried to `tell`, with its answer.
+    /// Hands each step that is tried to `tell`, with the state that it left and its answer.
     pub fn replay(
         &mut self,
         log: &[u8],
         budget: u64,
-        mut tell: impl FnMut(Step, Result<(), Rejection>),
+        mut tell: impl FnMut(&Self, Step, Result<(), Rejection>),
     ) -> Report {
         let (mut at, mut tried, mut rejected) = (0, 0, 0);
         let stop = loop {
@@ -32,7 +32,7 @@ impl State<'_> {
                 Err(damage) => break Stop::Damaged(damage),
                 Ok(Some((step, after))) => {
                     let answer = self.step(step);
-                    tell(step, answer);
+                    tell(self, step, answer);
                     tried += 1;
                     rejected += u64::from(answer.is_err());
                     at = after;

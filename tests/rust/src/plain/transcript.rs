@@ -60,7 +60,7 @@ struct Run<'a> {
 fn run<'a>(words: &'a mut [u64], log: &[u8], lines: &'a mut [Line]) -> Result<Run<'a>, Rejection> {
     let mut state = State::check(words)?;
     let mut rest = lines.iter_mut();
-    let report = state.replay(log, BUDGET, |step, answer| {
+    let report = state.replay(log, BUDGET, |_, step, answer| {
         if let Some(line) = rest.next() {
             line.kind = step.kind as u8;
             line.answer = number_of(&answer) as u8;

@@ -34,6 +34,17 @@ mod c {
             report: *mut u64,
             report_len: usize,
         ) -> u64;
+        pub fn penkwadar_replay_tally(
+            state: *mut u64,
+            state_len: usize,
+            log: *const u8,
+            log_len: usize,
+            budget: u64,
+            report: *mut u64,
+            report_len: usize,
+            tally: *mut u64,
+            tally_len: usize,
+        ) -> u64;
         pub fn penkwadar_read_step(
             log: *const u8,
             log_len: usize,
@@ -137,6 +148,31 @@ pub fn replay(state: &mut [u64], log: &[u8], budget: u64, report: &mut [u64]) ->
             budget,
             report.as_mut_ptr(),
             report.len(),
+        )
+    }
+}
+
+/// The same; the first 17 words of `tally` become the counts of rejected steps: of each host, and of those that name none.
+#[inline]
+pub fn replay_tally(
+    state: &mut [u64],
+    log: &[u8],
+    budget: u64,
+    report: &mut [u64],
+    tally: &mut [u64],
+) -> u64 {
+    // SAFETY: pointers and lengths are those of slices; all but `log` are borrowed mutably, so none overlap.
+    unsafe {
+        c::penkwadar_replay_tally(
+            state.as_mut_ptr(),
+            state.len(),
+            log.as_ptr(),
+            log.len(),
+            budget,
+            report.as_mut_ptr(),
+            report.len(),
+            tally.as_mut_ptr(),
+            tally.len(),
         )
     }
 }

@@ -13,6 +13,7 @@ pub use crate::rejection::Rejection;
 pub use crate::report::{Report, Stop};
 pub use crate::seat::Seat;
 pub use crate::step::Step;
+pub use crate::tally::Tally;
 pub use codec::{read_step, write_step};
 pub use state::{CSV_BYTES, State, TRACE_HOSTS, state_words};
 pub use transcript::{LONGEST_LOG, transcript};

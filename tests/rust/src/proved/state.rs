@@ -6,6 +6,7 @@ use crate::rejection::Rejection;
 use crate::report::Report;
 use crate::seat::Seat;
 use crate::step::Step;
+use crate::tally::Tally;
 
 /// The length of a state for so many shards, if there may be so many.
 pub fn state_words(shards: usize) -> Option<usize> {
@@ -131,6 +132,21 @@ impl<W: AsRef<[u64]> + AsMut<[u64]>> State<W> {
     pub fn replay(&mut self, log: &[u8], budget: u64) -> Result<Report, Rejection> {
         let mut report = [0; 4];
         let answer = ffi::replay(self.words_mut(), log, budget, &mut report);
+        replayed(answer, report)
+    }
+
+    /// The same, with the rejected steps told by host: the tally counts them from zero.
+    ///
+    /// A rejected replay leaves the tally as it was.
+    pub fn replay_tally(
+        &mut self,
+        log: &[u8],
+        budget: u64,
+        tally: &mut Tally,
+    ) -> Result<Report, Rejection> {
+        let (mut report, mut counts) = ([0; 4], tally.words());
+        let answer = ffi::replay_tally(self.words_mut(), log, budget, &mut report, &mut counts);
+        *tally = Tally::from_words(counts);
         replayed(answer, report)
     }
 }

@@ -4,6 +4,7 @@ use super::twin::{Element, Twin};
 use crate::interface::{Interface, Plain, Proved};
 use crate::seat::Seat;
 use crate::step::Step;
+use crate::tally::TALLY_WORDS;
 
 /// What an output holds before a call.
 const UNWRITTEN: u64 = 0xdead_beef_dead_beef;
@@ -48,20 +49,71 @@ pub fn replay(state: &mut Twin<u64>, log: &[u8], budget: u64) -> Replayed {
 
 /// A replay whose report has so many words.
 pub fn replay_into(state: &mut Twin<u64>, log: &[u8], budget: u64, report_len: usize) -> Replayed {
-    let call = ("replay", log, budget, report_len);
+    replaying(
+        state,
+        report_len,
+        &("replay", log, budget, report_len),
+        |state, report| Plain::replay(state, log, budget, report),
+        |state, report| Proved::replay(state, log, budget, report),
+    )
+}
+
+/// A call that changes a state and writes a report of so many words.
+fn replaying(
+    state: &mut Twin<u64>,
+    report_len: usize,
+    call: &dyn std::fmt::Debug,
+    plain: impl FnOnce(&mut [u64], &mut [u64]) -> u64,
+    proved: impl FnOnce(&mut [u64], &mut [u64]) -> u64,
+) -> Replayed {
     let mut report = Twin::filled(report_len, UNWRITTEN);
-    let (plain, proved) = state.both();
+    let (plain_state, proved_state) = state.both();
     let (plain_report, proved_report) = report.both();
-    let answer = alike(
-        Plain::replay(plain, log, budget, plain_report),
-        Proved::replay(proved, log, budget, proved_report),
-        &call,
-    );
+    let answer = alike(plain(plain_state, plain_report), proved(proved_state, proved_report), call);
     let rejected = matches!(answer, 1 | 8 | 9);
-    state.settle(rejected, &call);
-    report.settle(rejected, &call);
+    state.settle(rejected, call);
+    report.settle(rejected, call);
     let written = report.get().first_chunk().copied();
     Replayed { answer, report: written.filter(|_| !rejected) }
+}
+
+/// How a replay with a tally went.
+#[derive(Clone, Copy, Debug, PartialEq, Eq)]
+pub struct Tallied {
+    pub replayed: Replayed,
+    /// Nothing where it was rejected.
+    pub tally: Option<[u64; TALLY_WORDS]>,
+}
+
+pub fn replay_tally(state: &mut Twin<u64>, log: &[u8], budget: u64) -> Tallied {
+    replay_tally_into(state, log, budget, [5, TALLY_WORDS + 1])
+}
+
+/// A replay whose report and tally have so many words. The counts sum to the steps rejected, and words past them stay.
+pub fn replay_tally_into(
+    state: &mut Twin<u64>,
+    log: &[u8],
+    budget: u64,
+    [report_len, tally_len]: [usize; 2],
+) -> Tallied {
+    let call = ("replay_tally", log, budget, report_len, tally_len);
+    let mut tally = Twin::filled(tally_len, UNWRITTEN);
+    let (plain_tally, proved_tally) = tally.both();
+    let replayed = replaying(
+        state,
+        report_len,
+        &call,
+        |state, report| Plain::replay_tally(state, log, budget, report, plain_tally),
+        |state, report| Proved::replay_tally(state, log, budget, report, proved_tally),
+    );
+    tally.settle(replayed.report.is_none(), &call);
+    let written = replayed.report.map(|[_, _, rejected, _]| {
+        let (counts, rest) = tally.get().split_first_chunk().expect("the words of a tally");
+        assert_eq!(counts.iter().sum::<u64>(), rejected, "sum of the tally of {call:?}");
+        assert!(rest.iter().all(|&word| word == UNWRITTEN), "written past the tally of {call:?}");
+        *counts
+    });
+    Tallied { replayed, tally: written }
 }
 
 /// A read: the six words where there was a step or the end.

@@ -1,5 +1,6 @@
 //! Drives a state through random calls of both implementations.
 
+use super::any_log::any_log;
 use super::asides;
 use super::both;
 use super::coverage::Coverage;
@@ -13,7 +14,6 @@ use super::temper::Temper;
 use super::tried::{Tried, caps};
 use super::twin::Twin;
 use crate::claims::Claims;
-use crate::plain;
 use crate::proved::TRACE_HOSTS;
 use crate::seat::Seat;
 use crate::step::Step;
@@ -101,23 +101,13 @@ impl<'a> Driver<'a> {
         self.coverage.stops[replayed.report.expect("a report")[0] as usize] += 1;
     }
 
-    /// A log of steps that mostly can be accepted one after the other; some logs are spoiled.
+    /// A log for the state; some are spoiled.
     fn log(&mut self) -> Vec<u8> {
         let length = match self.random.below(20) {
             0 => self.random.below(300),
             _ => self.random.below(30),
         };
-        let mut words = self.state.get().to_vec();
-        let mut state = plain::State::check(&mut words).expect("a well-formed state");
-        let mut log = Vec::new();
-        for _ in 0..length {
-            let step = any_step(self.random, View::new(state.words()), &self.temper);
-            if logs::is_writable(step) {
-                // An answer is no matter here: the state only leads to the next step.
-                let _ = state.step(step);
-                logs::push_step(&mut log, step);
-            }
-        }
+        let mut log = any_log(self.random, self.state.get(), &self.temper, length);
         if self.random.chance(25) {
             logs::spoil(self.random, &mut log);
         }

@@ -1,5 +1,6 @@
 //! What the tests and the benchmark share.
 
+pub mod any_log;
 mod asides;
 pub mod both;
 pub mod catch_ups;
@@ -14,11 +15,13 @@ pub mod random;
 pub mod script;
 pub mod seats;
 pub mod settings;
-mod singly;
+pub mod singly;
 pub mod states;
 pub mod steps;
+pub mod tallies;
+pub mod tally_vectors;
 pub mod temper;
-mod tried;
+pub mod tried;
 pub mod twin;
 pub mod vectors;
 pub mod wrong;

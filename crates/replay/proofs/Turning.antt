@@ -1,0 +1,182 @@
+-- The turns of a replay that keeps a tally: it begins, a step is accepted or rejected, and it is over.
+-- Assumes nothing.
+use Prim.Native.Nat.{ℕ, _+_, _-_, _≤_, _<_, _^_}
+use native.Mathlib.Nat.{sub-zero}
+use native.Mathlib.Omega.{arith}
+use mathlib.Core.Path.{_≡_, refl, sym, ap, ap₂, subst, _∙_}
+use mathlib.Core.Bool.{Bool, true, false, cond, true≢false}
+use mathlib.Core.List.{List, _∷_}
+use lib.Dec.{eqb}
+use lib.ListN.{length, drop}
+use borrow.Author.Tests.{eq-eqb, ne-eqb}
+use Rattle.model.specs.declared.step.Step.{Step}
+use Rattle.model.specs.declared.Reading.the-variants.{Step as Read, End, Rejected as Damage}
+use Rattle.model.specs.declared.Stop.{Stop}
+use Rattle.model.specs.declared.Stop.the-variants.{Ended, Spent, Damaged, Rejected as NotTried}
+use Rattle.model.specs.declared.Report.{Report}
+use Rattle.model.specs.Kinds.{kindOf}
+use Rattle.model.specs.Rules.{Known}
+use Rattle.model.specs.Steps.{rejection, after}
+use Rattle.model.specs.Log.{readAt, readLog, stopped}
+use Rattle.model.specs.Replay.{afterAll, replayRejection, replayed, report, afterReplay}
+use Rattle.model.specs.Results.{replayNumber}
+use Rattle.model.proofs.RoundTrip.{step-given}
+use Rattle.model.proofs.WellFormedSteps.{step-length, after-rejected}
+use Rattle.lookup.specs.Ready.{Formed}
+use Rattle.replay.specs.declared.tally.Tally.{Tally}
+use Rattle.replay.specs.declared.turns.Progress.{Progress}
+use Rattle.replay.specs.Run.{reported, runReport, afterRun}
+use Rattle.replay.specs.Tally.{noHost, countOf, tallyOf, tallyAfter}
+use Rattle.replay.specs.Counts.{nothingCounted, countAt, countedIn, Room, tallyFrom}
+use Rattle.replay.specs.Turns.{Underway, Tallying, Turned, Turning, Turns, Begins, Rejected, ended, goesOn}
+use Rattle.replay.proofs.Rest.{read-step, reads-step, stops}
+use Rattle.replay.proofs.Running.{start, turn-rejected, turn-accepted}
+use Rattle.replay.proofs.Tallies.{counted-at, counted-long, count-most, nothing-at, nothing-long, tally-from-nothing}
+use Rattle.replay.proofs.Whole.{formed}
+
+one-at-most : (b : Bool) → cond b 1 0 ≤ 1
+one-at-most true = omega arith
+one-at-most false = omega arith
+
+-- a step that was read has a kind that is known
+known-step : (log : List ℕ) (at : ℕ) (s : Step) (next : ℕ) → readAt log at ≡ Read s next → Known (kindOf (s .kind))
+known-step log at s next e =
+    let d = read-step log at s next e in
+    let g = step-given (drop at log) (d .1) .writable in
+    record { notKept = g .notKept; known = g .known }
+
+-- ---- the whole replay, where its state is accepted
+module _ (w log : List ℕ) (budget : ℕ) (z : replayRejection w ≡ 0) where
+  run-reported : runReport w log budget ≡ report w log budget
+  unfolding report runReport
+  run-reported = rw z
+
+  run-left : afterRun w log budget ≡ afterReplay w log budget
+  unfolding afterReplay afterRun replayed
+  run-left = rw z
+
+  run-tallied : (t₀ : Tally) → tallyFrom nothingCounted w (readLog budget log .steps) ≡ tallyAfter t₀ w log budget
+  unfolding tallyAfter replayed
+  run-tallied t₀ = tally-from-nothing w (readLog budget log .steps) ∙ rw z
+
+-- ---- the beginning; e is what the test of the state answered
+module _ (w : List ℕ) {e : ℕ} (q : e ≡ replayRejection w) where
+  pub begins-over : (e ≡ 0 → ⊥) → Begins w (ended (reported (NotTried e) 0 0 0))
+  unfolding report afterReplay replayed afterAll tallyAfter
+  begins-over n t₀ log budget = (
+    λ g. absurd (true≢false (sym g)),
+    λ g.
+        record {
+          long = refl;
+          on = λ h. absurd (true≢false (sym h));
+          over = λ h. (rw (sym q, ne-eqb e 0 n), (rw (sym q, ne-eqb e 0 n), rw (sym q, ne-eqb e 0 n)));
+        },
+  )
+
+  pub begins-on : e ≡ 0 → Begins w (goesOn (reported Spent 0 0 0) 17)
+  begins-on z t₀ log budget = (
+    λ g.
+        record {
+          long = refl;
+          on = λ h.
+              record {
+                accepted = sym q ∙ z;
+                running = start w log budget (formed w log budget q z);
+                tally-is = simp sub-zero;
+                few = λ k b. rw (nothing-at k b) (omega arith);
+                sixteen = nothing-long;
+              };
+          over = λ h. absurd (true≢false h);
+        },
+    λ g. absurd (true≢false g),
+  )
+
+-- ---- a turn
+module _ {w₀ log : List ℕ} {budget : ℕ} {w : List ℕ} {r : Report} {t : Tally} (t₀ : Tally) (u : Underway w₀ log budget w r t) where
+  -- nothing more is read
+  pub stops-here : {x : Stop} → readLog (budget - r .tried) (drop (r .bytes) log) ≡ stopped x
+      → Turned t₀ w₀ log budget r w (ended (reported x (r .tried) (r .rejected) (r .bytes))) t
+  unfolding stopped tallyFrom
+  stops-here {x} e =
+      record {
+        counts = λ l. absurd (omega (arith, l));
+        skips = λ l.
+            record {
+              long = u .running .long;
+              on = λ g. absurd (true≢false (sym g));
+              over = λ g.
+                  let d = stops (u .running .rest) e in (
+                    d .0 ∙ run-reported w₀ log budget (u .accepted),
+                    (d .1 ∙ run-left w₀ log budget (u .accepted), sym (rw e at (u .tally-is)) ∙ run-tallied w₀ log budget (u .accepted) t₀),
+                  );
+            };
+        less = λ g. absurd (true≢false (sym g));
+      }
+
+  -- a step is read and tried: a is its answer, and v the state that it leaves
+  module _ (s : Step) (next : ℕ) (h : r .tried < budget) (e : readAt log (r .bytes) ≡ Read s next)
+      {a : ℕ} (p : a ≡ rejection w s) {v : List ℕ} (q : v ≡ after w s) where
+    tally-goes : tallyFrom nothingCounted w₀ (readLog budget log .steps)
+        ≡ tallyFrom (cond (eqb (rejection w s) 0) t (countedIn t (countOf w s))) v (readLog (budget - (r .tried + 1)) (drop next log) .steps)
+    unfolding tallyFrom
+    tally-goes = u .tally-is ∙ rw (reads-step log budget (r .bytes) (r .tried) s next h e, q)
+
+    long-left : length v ≡ length w₀
+    long-left = rw q (step-length w s) ∙ u .running .long
+
+    pub accepts-one : a ≡ 0 → Turned t₀ w₀ log budget r v (goesOn (reported Spent (r .tried + 1) (r .rejected) next) 17) t
+    accepts-one z =
+        record {
+          counts = λ l. absurd (omega (arith, l));
+          skips = λ l.
+              record {
+                long = long-left;
+                on = λ g.
+                    record {
+                      accepted = u .accepted;
+                      running = turn-accepted (u .running) s next h e a p q z refl;
+                      tally-is = rw (eq-eqb (rejection w s) 0 (sym p ∙ z)) at tally-goes;
+                      few = u .few;
+                      sixteen = u .sixteen;
+                    };
+                over = λ g. absurd (true≢false g);
+              };
+          less = λ g. omega (arith, h);
+        }
+
+    -- .. is counted
+    pub rejects-one : (a ≡ 0 → ⊥) → r .rejected + 1 < 2 ^ 64 → {k : ℕ} → k ≡ countOf v s
+        → Turned t₀ w₀ log budget r v (goesOn (reported Spent (r .tried + 1) (r .rejected + 1) next) k) t
+    rejects-one n small {k} c =
+        let no : rejection w s ≡ 0 → ⊥ = λ z. n (p ∙ z) in
+        let here : k ≡ countOf w s = c ∙ ap (λ (x : List ℕ). countOf x s) (q ∙ after-rejected w s no) in
+        let most : k ≤ noHost = rw here (count-most w s) in
+        record {
+          counts = λ l. (
+            record { fits = omega (arith, small, u .few k most) },
+            record {
+              long = long-left;
+              on = λ g.
+                  record {
+                    accepted = u .accepted;
+                    running = turn-rejected (u .running) s next h e a p q n refl;
+                    tally-is = rw (ne-eqb (rejection w s) 0 no, sym here) at tally-goes;
+                    few = λ j b. let is = counted-at t (u .sixteen) k j most b in omega (arith, is, u .few j b, one-at-most (eqb k j));
+                    sixteen = counted-long t (u .sixteen) k;
+                  };
+              over = λ g. absurd (true≢false g);
+            },
+          );
+          skips = λ l. absurd (omega (arith, l, most));
+          less = λ g. omega (arith, h);
+        }
+
+    -- .. and has a host to be looked for
+    pub has-host : (a ≡ 0 → ⊥) → Rejected v s a
+    has-host n =
+        let is : v ≡ w = q ∙ after-rejected w s (λ z. n (p ∙ z)) in
+        record {
+          formed = rw is (u .running .formed);
+          known = known-step log (r .bytes) s next e;
+          is = p ∙ rw is;
+        }

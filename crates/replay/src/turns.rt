@@ -1,0 +1,108 @@
+// The turns of a replay that keeps a tally: one step is read and tried, and its rejection has a host, or none.
+use crate::stopped;
+use crate::tally::NO_HOST;
+use model::Reading;
+use model::Report;
+use model::Stop;
+use model::step::Step;
+ghost use mathlib.Core.Path.{_≡_};
+ghost use Rattle.replay.specs.Tally.{namedHost, countOf};
+ghost use Rattle.replay.specs.Turns.{Begins, Turning, Turns, Rejected, ended, goesOn};
+
+// No count is to be one more.
+const NO_COUNT: u64 = 17;
+
+// How far a replay is: its report so far, the count that the last step's rejection goes to (17: none), and whether it goes on.
+pub struct Progress {
+    pub report: Report,
+    pub count: u64,
+    pub going: bool,
+}
+
+// The beginning: nothing tried, or rejected (1 or 9).
+pub fn begin(state: &mut [u64]) -> Progress
+    ensures { λ r. ⌜ Begins (now (state .entry)) r ⌝ }
+    ensures { λ _. ⌜ now (state .exit) ≡ now (state .entry) ⌝ }
+{
+    let early = wellformed::state_rejection(state);
+    if early != 0 {
+        return over(stopped(Stop::Rejected(early), 0, 0, 0));
+    }
+    on(stopped(Stop::Spent, 0, 0, 0), NO_COUNT)
+}
+
+// The next step is tried; or the replay is over, where the budget is used up or no whole step is left.
+pub fn turn(state: &mut [u64], log: &[u8], budget: u64, before: Report) -> Progress
+    requires { ⌜ Turning (now state) (now log) budget before ⌝ }
+    ensures { λ r. ⌜ Turns (now (state .entry)) (now (log .entry)) budget before (now (state .exit)) r ⌝ }
+{
+    let at = before.bytes as usize;
+    let tried = before.tried;
+    let rejected = before.rejected;
+    if budget <= tried {
+        if log.len() <= at {
+            return over(stopped(Stop::Ended, tried, rejected, at));
+        }
+        return over(stopped(Stop::Spent, tried, rejected, at));
+    }
+    match log::reader::read_step(log, at) {
+        Reading::Step { step, next } => {
+            let answer = machine::step_inside(state, step);
+            if answer == 0 {
+                return on(stopped(Stop::Spent, tried + 1, rejected, next), NO_COUNT);
+            }
+            let count = count_of(state, step, answer);
+            on(stopped(Stop::Spent, tried + 1, rejected + 1, next), count)
+        }
+        Reading::End => over(stopped(Stop::Ended, tried, rejected, at)),
+        Reading::Rejected(r) => over(stopped(Stop::Damaged(r), tried, rejected, at)),
+    }
+}
+
+// The count that a rejection goes to: that of the acting host, or of none.
+fn count_of(state: &[u64], s: Step, answer: u64) -> u64
+    requires { ⌜ Rejected (now state) s answer ⌝ }
+    ensures { λ r. ⌜ r ≡ countOf (now (state .entry)) s ⌝ }
+{
+    let host = named_host(state, s, answer);
+    if host < NO_HOST {
+        return host;
+    }
+    NO_HOST
+}
+
+// The acting host of a step that was rejected; of an add, the orderer of the configuration named, where the step names one that is installed.
+fn named_host(state: &[u64], s: Step, answer: u64) -> u64
+    requires { ⌜ Rejected (now state) s answer ⌝ }
+    ensures { λ r. ⌜ r ≡ namedHost (now (state .entry)) s ⌝ }
+{
+    let named = s.host(NO_HOST);
+    if answer == 7 || answer == 10 {
+        return named;
+    }
+    let z = s.shard() as usize;
+    let j = (s.b - 1) as usize;
+    s.host(lookup::configuration_of(state, z, j).orderer)
+}
+
+// A replay that is over.
+fn over(report: Report) -> Progress
+    ensures { λ r. ⌜ r ≡ ended report ⌝ }
+{
+    Progress {
+        report,
+        count: NO_COUNT,
+        going: false,
+    }
+}
+
+// A replay that goes on, with the count that is to be one more.
+fn on(report: Report, count: u64) -> Progress
+    ensures { λ r. ⌜ r ≡ goesOn report count ⌝ }
+{
+    Progress {
+        report,
+        count,
+        going: true,
+    }
+}
