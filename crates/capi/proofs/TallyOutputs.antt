@@ -14,7 +14,7 @@ use Rattle.model.specs.declared.Report.{Report}
 use Rattle.model.specs.Replay.{replayRejection, replayed, report, afterReplay}
 use Rattle.model.specs.Results.{stopNumber}
 use Rattle.replay.specs.declared.tally.Tally.{Tally}
-use Rattle.replay.specs.Tally.{noHost, tallyOf, tallyAfter}
+use Rattle.replay.specs.Tally.{tallyOf, tallyAfter}
 use Rattle.replay.proofs.Tallies.{host-counts-long}
 use Rattle.replay.proofs.Whole.{reports}
 use Rattle.capi.specs.Words.{reportedWords}

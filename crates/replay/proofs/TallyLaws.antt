@@ -1,20 +1,17 @@
 -- The seventeen counts of a tally sum to the steps rejected, and a host that no step names has 0.
 -- Assumes nothing.
 use Prim.Native.Nat.{ℕ, zero, suc, _+_, _≤_, _<_}
-use native.Mathlib.Nat.{add-zero, zero-add}
 use native.Mathlib.Omega.{arith}
 use mathlib.Core.Path.{_≡_, refl, sym, ap, _∙_}
 use mathlib.Core.Bool.{Bool, true, false, cond, not, _&&_, _||_, true≢false}
 use mathlib.Core.List.{List, [], _∷_, _++_}
 use lib.Dec.{eqb, ltb}
-use lib.ListN.{getD}
-use borrow.Author.Tests.{lt-ltb, le-ltb, ltb-true, ltb-false, eq-eqb, ne-eqb, eqb-true, eqb-false}
+use borrow.Author.Tests.{lt-ltb, le-ltb, ltb-true, ltb-false, ne-eqb, eqb-true, eqb-false}
 use Rattle.model.specs.declared.step.Step.{Step}
 use Rattle.model.specs.Members.{isHost}
 use Rattle.model.specs.Steps.{rejection, after}
 use Rattle.model.specs.Log.{readLog}
-use Rattle.model.specs.Replay.{rejectedIn, replayRejection, replayed, report}
-use Rattle.replay.specs.declared.tally.Tally.{Tally}
+use Rattle.model.specs.Replay.{rejectedIn, replayed, report}
 use Rattle.replay.specs.Tally.{noHost, namedHost, countOf, isRejectionOf, rejectionsOf, hostCounts, tallyOf, tallyAfter}
 use Rattle.replay.specs.TallyLaws.{sum, total, isNamedIn, TallyLaws}
 use Rattle.replay.proofs.Tallies.{count-most, host-count}

@@ -3,32 +3,29 @@
 use Prim.Native.Nat.{ℕ, _+_, _-_, _≤_, _<_, _^_}
 use native.Mathlib.Nat.{sub-zero}
 use native.Mathlib.Omega.{arith}
-use mathlib.Core.Path.{_≡_, refl, sym, ap, ap₂, subst, _∙_}
+use mathlib.Core.Path.{_≡_, refl, sym, ap, _∙_}
 use mathlib.Core.Bool.{Bool, true, false, cond, true≢false}
-use mathlib.Core.List.{List, _∷_}
+use mathlib.Core.List.{List}
 use lib.Dec.{eqb}
 use lib.ListN.{length, drop}
 use borrow.Author.Tests.{eq-eqb, ne-eqb}
 use Rattle.model.specs.declared.step.Step.{Step}
-use Rattle.model.specs.declared.Reading.the-variants.{Step as Read, End, Rejected as Damage}
+use Rattle.model.specs.declared.Reading.the-variants.{Step as Read}
 use Rattle.model.specs.declared.Stop.{Stop}
-use Rattle.model.specs.declared.Stop.the-variants.{Ended, Spent, Damaged, Rejected as NotTried}
+use Rattle.model.specs.declared.Stop.the-variants.{Spent, Rejected as NotTried}
 use Rattle.model.specs.declared.Report.{Report}
 use Rattle.model.specs.Kinds.{kindOf}
 use Rattle.model.specs.Rules.{Known}
 use Rattle.model.specs.Steps.{rejection, after}
 use Rattle.model.specs.Log.{readAt, readLog, stopped}
 use Rattle.model.specs.Replay.{afterAll, replayRejection, replayed, report, afterReplay}
-use Rattle.model.specs.Results.{replayNumber}
 use Rattle.model.proofs.RoundTrip.{step-given}
 use Rattle.model.proofs.WellFormedSteps.{step-length, after-rejected}
-use Rattle.lookup.specs.Ready.{Formed}
 use Rattle.replay.specs.declared.tally.Tally.{Tally}
-use Rattle.replay.specs.declared.turns.Progress.{Progress}
 use Rattle.replay.specs.Run.{reported, runReport, afterRun}
-use Rattle.replay.specs.Tally.{noHost, countOf, tallyOf, tallyAfter}
-use Rattle.replay.specs.Counts.{nothingCounted, countAt, countedIn, Room, tallyFrom}
-use Rattle.replay.specs.Turns.{Underway, Tallying, Turned, Turning, Turns, Begins, Rejected, ended, goesOn}
+use Rattle.replay.specs.Tally.{noHost, countOf, tallyAfter}
+use Rattle.replay.specs.Counts.{nothingCounted, countedIn, tallyFrom}
+use Rattle.replay.specs.Turns.{Underway, Turned, Begins, Rejected, ended, goesOn}
 use Rattle.replay.proofs.Rest.{read-step, reads-step, stops}
 use Rattle.replay.proofs.Running.{start, turn-rejected, turn-accepted}
 use Rattle.replay.proofs.Tallies.{counted-at, counted-long, count-most, nothing-at, nothing-long, tally-from-nothing}

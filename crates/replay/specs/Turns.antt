@@ -1,8 +1,8 @@
 -- A replay at one of its turns, as the functions inside need it: what is still to come, together with what was counted, is what the whole replay
 -- reports, leaves and tallies.
-use Prim.Native.Nat.{ℕ, _+_, _-_, _≤_, _<_}
+use Prim.Native.Nat.{ℕ, _-_, _≤_, _<_}
 use mathlib.Core.Path.{_≡_}
-use mathlib.Core.Bool.{Bool, true, false}
+use mathlib.Core.Bool.{true, false}
 use mathlib.Core.List.{List}
 use lib.ListN.{length, drop}
 use Rattle.model.specs.declared.step.Step.{Step}
@@ -27,7 +27,7 @@ pub record Underway (w₀ log : List ℕ) (budget : ℕ) (w : List ℕ) (r : Rep
   pub few : (k : ℕ) → k ≤ noHost → countAt t k ≤ r .rejected
   pub sixteen : length (t .hosts) ≡ noHost
 
--- the numbers of no count: none of the seventeen
+-- the number of no count, after those of the seventeen
 abbrev pub noCount : ℕ
 noCount = 17
 
@@ -65,7 +65,8 @@ Turns w log budget r w′ p =
 -- how a replay begins: with nothing counted, or over at once
 abbrev pub Begins : List ℕ → Progress → Type 0
 Begins w p =
-    (t₀ : Tally) (log : List ℕ) (budget : ℕ) → (p .going ≡ true → Tallying t₀ w log budget w p nothingCounted) × (p .going ≡ false → Tallying t₀ w log budget w p t₀)
+    (t₀ : Tally) (log : List ℕ) (budget : ℕ)
+    → (p .going ≡ true → Tallying t₀ w log budget w p nothingCounted) × (p .going ≡ false → Tallying t₀ w log budget w p t₀)
 
 -- a step that was rejected, as it is looked at for its host
 pub record Rejected (w : List ℕ) (s : Step) (answer : ℕ) : Type 0 where

@@ -1,8 +1,5 @@
 -- `replay::turns::begin` meets its contract.
-use mathlib.Core.Path.{refl, sym, subst, _∙_}
-use Rattle.model.specs.declared.Report.{Report}
-use Rattle.replay.specs.declared.turns.Progress.{Progress}
-use Rattle.replay.specs.Turns.{Begins, ended, goesOn}
+use mathlib.Core.Path.{refl}
 use Rattle.replay.proofs.Turning.{begins-over, begins-on}
 use borrow.Author.Needs.{needs}
 use Rattle.replay.proofs.turns.begin.Statement.{statement}

@@ -18,7 +18,8 @@ over-requires c κs = search needs
 
 returns : tie.Need-returns
 returns c t₀ w₀ t u =
-    rw (c .over .ensures, c .before .stopped .ensures) (stops-here t₀ u (reads-all _ _ _ _ (c .before .before .before .if1 .taken) (c .before .before .if2 .taken)))
+    rw (c .over .ensures, c .before .stopped .ensures)
+    (stops-here t₀ u (reads-all _ _ _ _ (c .before .before .before .if1 .taken) (c .before .before .if2 .taken)))
 
 stopped-requires-2 : tie.Need-stopped-requires-2
 stopped-requires-2 c κs = search needs
