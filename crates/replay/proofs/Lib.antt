@@ -4,5 +4,6 @@ pub mod Rest
 pub mod Running
 pub mod Tallies
 pub mod TallyLaws
+pub mod ThreeFacts
 pub mod Turning
 pub mod Whole
