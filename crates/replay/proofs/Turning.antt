@@ -29,7 +29,7 @@ use Rattle.replay.specs.Turns.{Underway, Turned, Begins, Rejected, ended
 use Rattle.replay.proofs.Rest.{read-step, reads-step, stops}
 use Rattle.replay.proofs.Running.{start, turn-rejected, turn-accepted}
 use Rattle.replay.proofs.Tallies.{counted-at, counted-long, count-most, nothing-at, nothing-long, tally-from-nothing}
-use Rattle.replay.proofs.Whole.{formed}
+use Rattle.replay.proofs.Whole.{returned, formed}
 
 one-at-most : (b : Bool) → cond b 1 0 ≤ 1
 one-at-most true = omega arith
@@ -66,7 +66,7 @@ module _ (w : List ℕ) {e : ℕ} (q : e ≡ replayRejection w) where
         record {
           long = refl;
           on = λ h. absurd (true≢false (sym h));
-          over = λ h. (rw (sym q, ne-eqb e 0 n), (rw (sym q, ne-eqb e 0 n), rw (sym q, ne-eqb e 0 n)));
+          over = λ h. (returned w log budget (rw (sym q, ne-eqb e 0 n)), (rw (sym q, ne-eqb e 0 n), rw (sym q, ne-eqb e 0 n)));
         },
   )
 
@@ -103,7 +103,7 @@ module _ {w₀ log : List ℕ} {budget : ℕ} {w : List ℕ} {r : Report} {t : T
               on = λ g. absurd (true≢false (sym g));
               over = λ g.
                   let d = stops (u .running .rest) e in (
-                    d .0 ∙ run-reported w₀ log budget (u .accepted),
+                    returned w₀ log budget (d .0 ∙ run-reported w₀ log budget (u .accepted)),
                     (d .1 ∙ run-left w₀ log budget (u .accepted), sym (rw e at (u .tally-is)) ∙ run-tallied w₀ log budget (u .accepted) t₀),
                   );
             };

@@ -17,6 +17,7 @@ use Rattle.model.proofs.Checks.{passed}
 use Rattle.model.proofs.Results.{replays}
 use Rattle.lookup.proofs.Formed.{formed-of}
 use Rattle.lookup.specs.Ready.{Formed}
+use Rattle.replay.specs.Returns.{Returns}
 use Rattle.replay.specs.Run.{reported, runReport, afterRun}
 
 -- what is reported and left, in numbers and as a value
@@ -32,6 +33,11 @@ pub reports : (w log : List ℕ) (budget : ℕ) {x : Report} {v : List ℕ} → 
 reports w log budget p q =
     let t = replays w log budget p in
     (t .number, (t .code, (t .tried, (t .rejected, (t .bytes, (p, q))))))
+
+pub returned : (w log : List ℕ) (budget : ℕ) {x : Report} → x ≡ report w log budget → Returns w log budget x
+returned w log budget p =
+    let t = replays w log budget p in
+    record { number = t .number; code = t .code; tried = t .tried; rejected = t .rejected; bytes = t .bytes; value = p }
 
 -- r is what the test of the state answered
 module _ (w log : List ℕ) (budget : ℕ) {r : ℕ} (e : r ≡ replayRejection w) where

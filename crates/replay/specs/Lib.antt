@@ -1,5 +1,6 @@
 -- What a replay reports and leaves is in the crate `model`; here are its tally and what the functions inside require.
 pub mod Counts
+pub mod Returns
 pub mod Run
 pub mod Tally
 pub mod TallyLaws

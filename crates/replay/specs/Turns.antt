@@ -11,10 +11,11 @@ use Rattle.model.specs.Kinds.{kindOf}
 use Rattle.model.specs.Rules.{Known}
 use Rattle.model.specs.Steps.{rejection}
 use Rattle.model.specs.Log.{readLog}
-use Rattle.model.specs.Replay.{replayRejection, report, afterReplay}
+use Rattle.model.specs.Replay.{replayRejection, afterReplay}
 use Rattle.lookup.specs.Ready.{Formed}
 use Rattle.replay.specs.declared.tally.Tally.{Tally}
 use Rattle.replay.specs.declared.turns.Progress.{Progress}
+use Rattle.replay.specs.Returns.{Returns}
 use Rattle.replay.specs.Run.{Running}
 use Rattle.replay.specs.Tally.{noHost, tallyAfter}
 use Rattle.replay.specs.Counts.{countAt, countedIn, Room, nothingCounted, tallyFrom}
@@ -43,7 +44,7 @@ pub record Tallying (t₀ : Tally) (w₀ log : List ℕ) (budget : ℕ) (w : Lis
   pub long : length w ≡ length w₀
   pub on : p .going ≡ true → Underway w₀ log budget w (p .report) t
   pub over : p .going ≡ false
-      → (p .report ≡ report w₀ log budget) × ((w ≡ afterReplay w₀ log budget) × (t ≡ tallyAfter t₀ w₀ log budget))
+      → Returns w₀ log budget (p .report) × ((w ≡ afterReplay w₀ log budget) × (t ≡ tallyAfter t₀ w₀ log budget))
 
 -- what a turn gives: a count that is to be one more, or none; and fewer turns are left
 pub record Turned (t₀ : Tally) (w₀ log : List ℕ) (budget : ℕ) (before : Report) (w : List ℕ) (p : Progress) (t : Tally) : Type 0 where

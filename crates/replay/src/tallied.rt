@@ -7,7 +7,8 @@ use crate::turns::begin;
 use crate::turns::turn;
 use model::Report;
 ghost use mathlib.Core.Path.{_≡_};
-ghost use Rattle.model.specs.Replay.{report, afterReplay};
+ghost use Rattle.model.specs.Replay.{afterReplay};
+ghost use Rattle.replay.specs.Returns.{Returns};
 ghost use Rattle.replay.specs.Tally.{tallyAfter};
 
 // What a replay on a tally by value returns.
@@ -18,7 +19,7 @@ pub struct Tallied {
 
 // Replays a log with a budget of steps, as `replay` does. The tally is started from zero and counts the rejections; a replay that is rejected leaves it.
 pub fn replay_tally(state: &mut [u64], log: &[u8], budget: u64, tally: &mut Tally) -> Report
-    ensures { λ r. ⌜ r ≡ report (now (state .entry)) (now (log .entry)) budget ⌝ }
+    ensures { λ r. ⌜ Returns (now (state .entry)) (now (log .entry)) budget r ⌝ }
     ensures { λ _. ⌜ now (state .exit) ≡ afterReplay (now (state .entry)) (now (log .entry)) budget ⌝ }
     ensures { λ _. ⌜ now (tally .exit) ≡ tallyAfter (now (tally .entry)) (now (state .entry)) (now (log .entry)) budget ⌝ }
 {
@@ -37,7 +38,7 @@ pub fn replay_tally(state: &mut [u64], log: &[u8], budget: u64, tally: &mut Tall
 
 // The same on a tally by value.
 pub fn replay_by_value(state: &mut [u64], log: &[u8], budget: u64, tally: Tally) -> Tallied
-    ensures { λ r. ⌜ r .report ≡ report (now (state .entry)) (now (log .entry)) budget ⌝ }
+    ensures { λ r. ⌜ Returns (now (state .entry)) (now (log .entry)) budget (r .report) ⌝ }
     ensures { λ r. ⌜ r .tally ≡ tallyAfter tally (now (state .entry)) (now (log .entry)) budget ⌝ }
     ensures { λ _. ⌜ now (state .exit) ≡ afterReplay (now (state .entry)) (now (log .entry)) budget ⌝ }
 {

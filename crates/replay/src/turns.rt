@@ -19,7 +19,7 @@ pub struct Progress {
     pub going: bool,
 }
 
-// The beginning: nothing tried, or rejected (1 or 9).
+// The beginning: nothing tried, or rejected (1 or 9). It has the state as `turn` has it, and leaves it.
 pub fn begin(state: &mut [u64]) -> Progress
     ensures { λ r. ⌜ Begins (now (state .entry)) r ⌝ }
     ensures { λ _. ⌜ now (state .exit) ≡ now (state .entry) ⌝ }
@@ -71,7 +71,7 @@ fn count_of(state: &[u64], s: Step, answer: u64) -> u64
     NO_HOST
 }
 
-// The acting host of a step that was rejected; of an add, the orderer of the configuration named, where the step names one that is installed.
+// The acting host of a step that was rejected: the named one; of an add, the orderer of the configuration named, and none where it was rejected by 7 or 10.
 fn named_host(state: &[u64], s: Step, answer: u64) -> u64
     requires { ⌜ Rejected (now state) s answer ⌝ }
     ensures { λ r. ⌜ r ≡ namedHost (now (state .entry)) s ⌝ }
@@ -96,7 +96,7 @@ fn over(report: Report) -> Progress
     }
 }
 
-// A replay that goes on, with the count that is to be one more.
+// A replay that goes on, with the count that is to be one more (17: none).
 fn on(report: Report, count: u64) -> Progress
     ensures { λ r. ⌜ r ≡ goesOn report count ⌝ }
 {

@@ -51,7 +51,7 @@ returns-3 c =
     let e = r .replay-by-value .ensures in
     let t = e .1 .0 ∙ ap (λ (x : Tally). tallyAfter x (a .state .now) (a .log .now) (a .budget)) (i .tally-in .ensures) in
     replays-tally (a .state .now) (a .log .now) (a .budget) (a .report .now) (a .tally .now)
-    (i .before .before .before .if1 .left) (i .before .before .if2 .left) (e .0) t (e .1 .1) (p .put-replay .ensures) (w .put-tally .ensures)
+    (i .before .before .before .if1 .left) (i .before .before .if2 .left) (e .0 .value) t (e .1 .1) (p .put-replay .ensures) (w .put-tally .ensures)
 
 pub penkwadar-replay-tally-spec : {M : Type 1} → statement M
 penkwadar-replay-tally-spec =

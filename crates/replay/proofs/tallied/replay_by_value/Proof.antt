@@ -47,9 +47,10 @@ use denote.Triple.Walked.{Stays, gave-slice, stay-none-slice, stay-none, AllGo, 
 use denote.Triple.Walked.{walkOf, Walks, ends-at, walked, walk-meets}
 use denote.Exit.{yes}
 use Rattle.model.specs.declared.Report.{Report}
-use Rattle.model.specs.Replay.{report, afterReplay}
+use Rattle.model.specs.Replay.{afterReplay}
 use Rattle.model.proofs.Report as R
 use Rattle.model.proofs.Report.Laws as R′
+use Rattle.replay.specs.Returns.{Returns}
 use Rattle.replay.specs.Tally.{tallyAfter}
 use Rattle.replay.specs.declared.tally.Tally.{Tally}
 use Rattle.replay.specs.declared.tallied.Tallied.{Tallied}
@@ -140,7 +141,7 @@ module _ {M : Type 1} (𝓤 : URA M) (H : Heap 𝓤) (A : Atoms 𝓤) (W : Given
   Post = walkOf 𝓤 H A f.ended stayed (f.clauses 𝓤 H A at-mem run) .post (((κ, (κ′, tt)), (q, (q′, tt)), tt, a, at), tt)
 
   exits : n < 2 ^ 64 → Tallies t → (ys′ : List ℕ) (d : Tallied) → length ys′ ≡ length ys → Is D.the-row d (D′.lowered d ∷ [])
-      → d .report ≡ report ys zs n → d .tally ≡ tallyAfter t ys zs n → ys′ ≡ afterReplay ys zs n
+      → Returns ys zs n (d .report) → d .tally ≡ tallyAfter t ys zs n → ys′ ≡ afterReplay ys zs n
       → ent 𝓤 (⋆ 𝓤 H A (‵ (flft κ q) ∷ ‵ (flft κ′ q′) ∷ ‵ (finally u64 γ ys′) ∷ ‵ (ShrSlice (named 1) κ′ u8 .own log (s′ ∷ [])) ∷ [])) (Post (D′.lowered d))
   exits n-fits t-is ys′ d l d-is e₁ e₂ e₃ =
       qed W (‵ (flft κ q) ∷ ‵ (flft κ′ q′) ∷ ‵ (finally u64 γ ys′) ∷ ‵ (ShrSlice (named 1) κ′ u8 .own log (s′ ∷ [])) ∷ []) ∵
@@ -218,9 +219,9 @@ module _ {M : Type 1} (𝓤 : URA M) (H : Heap 𝓤) (A : Atoms 𝓤) (W : Given
         -- what the callee ensures, at some last values
         split ! $ move ! (1 ∷ []) $ use1 W (some (λ (ws : List ℕ × (Unit {0} × (Unit {0} × (Tally × Unit {0})))).
         ‵ (lasts callee.ended (κ, (κ′, (ν ∷ [], tt))) (state, (log, (n, (lent l₅ δ, tt)))) ws)
-        ⊛ (raw (fact 𝓤 (r ≡ report ys zs n)) ⊛ (raw (fact 𝓤 (ws .0 ≡ afterReplay ys zs n)) ⊛ raw (fact 𝓤 (ws .1 .1 .1 .0 ≡ tallyAfter t ys zs n))))))
+        ⊛ (raw (fact 𝓤 (Returns ys zs n r)) ⊛ (raw (fact 𝓤 (ws .0 ≡ afterReplay ys zs n)) ⊛ raw (fact 𝓤 (ws .1 .1 .1 .0 ≡ tallyAfter t ys zs n))))))
         (id⊢ 𝓤 _) $ pick ! (λ ws.
-        split ! $ move ! (1 ∷ []) $ split3 ! $ heard ! (r ≡ report ys zs n)
+        split ! $ move ! (1 ∷ []) $ split3 ! $ heard ! (Returns ys zs n r)
         (λ e₁. heard ! (ws .0 ≡ afterReplay ys zs n) (λ e₃. heard ! (ws .1 .1 .1 .0 ≡ tallyAfter t ys zs n) (λ e₂.
         fsplit ! $ fsplit ! $ move ! (1 ∷ []) $ feqL ! (λ l. move ! (1 ∷ []) $ fsplit ! $ drop ! $ fsplit ! $ drop ! $ fsplit ! $ move ! (1 ∷ []) $ drop ! $
         -- [the tally's last value; the state's; the tokens and the result; `lent`; …]

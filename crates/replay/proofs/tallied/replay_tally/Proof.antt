@@ -51,11 +51,12 @@ use denote.Triple.Walked.{ends-at, walked, walk-meets}
 use denote.Exit.{yes}
 use denote.Signature.{plain}
 use Rattle.model.specs.declared.Report.{Report}
-use Rattle.model.specs.Replay.{report, afterReplay}
+use Rattle.model.specs.Replay.{afterReplay}
 use Rattle.model.proofs.Report as R
 use Rattle.model.proofs.Report.Laws as R′
 use Rattle.replay.specs.declared.tally.Tally.{Tally}
 use Rattle.replay.specs.declared.turns.Progress.{Progress}
+use Rattle.replay.specs.Returns.{Returns}
 use Rattle.replay.specs.Tally.{tallyAfter}
 use Rattle.replay.specs.Counts.{Room, countedIn, nothingCounted}
 use Rattle.replay.specs.Turns.{Begins, Tallying, Turned, Turns}
@@ -176,7 +177,7 @@ module _ {M : Type 1} (𝓤 : URA M) (H : Heap 𝓤) (A : Atoms 𝓤) (W : Given
 
   -- from what is had at exit to the `post` of `walkOf`
   exits : (w : List ℕ) (p : Progress) (t : Tally) → budget < 2 ^ 64 → IsProgress p → length w ≡ n
-      → (p .report ≡ report w₀ (lg .now) budget) × ((w ≡ afterReplay w₀ (lg .now) budget) × (t ≡ tallyAfter t₀ w₀ (lg .now) budget))
+      → Returns w₀ (lg .now) budget (p .report) × ((w ≡ afterReplay w₀ (lg .now) budget) × (t ≡ tallyAfter t₀ w₀ (lg .now) budget))
       → ent 𝓤 (⋆ 𝓤 H A (Held w t [])) (Post (calls.reportVal (p .report)))
   exits w p t fits is long e =
       qed W (Held w t []) ∵
