@@ -5,5 +5,6 @@ pub mod Running
 pub mod Tallies
 pub mod TallyLaws
 pub mod ThreeFacts
+pub mod TurnExits
 pub mod Turning
 pub mod Whole

@@ -8,7 +8,7 @@ use mathlib.Core.Bool.{Bool, true, false, cond, true≢false}
 use mathlib.Core.List.{List}
 use lib.Dec.{eqb}
 use lib.ListN.{length, drop}
-use borrow.Author.Tests.{eq-eqb, ne-eqb}
+use borrow.Author.Tests.{eq-eqb, ne-eqb, eqb-true}
 use Rattle.model.specs.declared.step.Step.{Step}
 use Rattle.model.specs.declared.Reading.the-variants.{Step as Read}
 use Rattle.model.specs.declared.Stop.{Stop}
@@ -22,10 +22,11 @@ use Rattle.model.specs.Replay.{afterAll, replayRejection, replayed, report, aft
 use Rattle.model.proofs.RoundTrip.{step-given}
 use Rattle.model.proofs.WellFormedSteps.{step-length, after-rejected}
 use Rattle.replay.specs.declared.tally.Tally.{Tally}
+use Rattle.replay.specs.declared.turns.Progress.{Progress}
 use Rattle.replay.specs.Run.{reported, runReport, afterRun}
 use Rattle.replay.specs.Tally.{noHost, countOf, tallyAfter}
 use Rattle.replay.specs.Counts.{nothingCounted, countedIn, tallyFrom}
-use Rattle.replay.specs.Turns.{Underway, Turned, Begins, Rejected, ended, goesOn}
+use Rattle.replay.specs.Turns.{Underway, Tallying, Turned, begun, Rejected, ended, goesOn}
 use Rattle.replay.proofs.Rest.{read-step, reads-step, stops}
 use Rattle.replay.proofs.Running.{start, turn-rejected, turn-accepted}
 use Rattle.replay.proofs.Tallies.{counted-at, counted-long, count-most, nothing-at, nothing-long, tally-from-nothing}
@@ -58,35 +59,54 @@ module _ (w log : List ℕ) (budget : ℕ) (z : replayRejection w ≡ 0) where
 
 -- ---- the beginning; e is what the test of the state answered
 module _ (w : List ℕ) {e : ℕ} (q : e ≡ replayRejection w) where
-  pub begins-over : (e ≡ 0 → ⊥) → Begins w (ended (reported (NotTried e) 0 0 0))
-  unfolding report afterReplay replayed afterAll tallyAfter
-  begins-over n t₀ log budget = (
-    λ g. absurd (true≢false (sym g)),
-    λ g.
-        record {
-          long = refl;
-          on = λ h. absurd (true≢false (sym h));
-          over = λ h. (returned w log budget (rw (sym q, ne-eqb e 0 n)), (rw (sym q, ne-eqb e 0 n), rw (sym q, ne-eqb e 0 n)));
-        },
-  )
+  pub begun-over : (e ≡ 0 → ⊥) → ended (reported (NotTried e) 0 0 0) ≡ begun w
+  unfolding begun
+  begun-over n = rw (sym q, ne-eqb e 0 n)
 
-  pub begins-on : e ≡ 0 → Begins w (goesOn (reported Spent 0 0 0) 17)
-  begins-on z t₀ log budget = (
-    λ g.
-        record {
-          long = refl;
-          on = λ h.
-              record {
-                accepted = sym q ∙ z;
-                running = start w log budget (formed w log budget q z);
-                tally-is = simp sub-zero;
-                few = λ k b. rw (nothing-at k b) (omega arith);
-                sixteen = nothing-long;
-              };
-          over = λ h. absurd (true≢false h);
-        },
-    λ g. absurd (true≢false g),
-  )
+  pub begun-on : e ≡ 0 → goesOn (reported Spent 0 0 0) 17 ≡ begun w
+  unfolding begun
+  begun-on z = rw (sym q, eq-eqb e 0 z)
+
+module _ (w : List ℕ) {p : Progress} (e : p ≡ begun w) (t₀ : Tally) (log : List ℕ) (budget : ℕ) where
+  -- over at once: the tally is left
+  pub begins-over : p .going ≡ false → Tallying t₀ w log budget w p t₀
+  unfolding begun report afterReplay replayed afterAll tallyAfter
+  begins-over g = rw e (go (eqb (replayRejection w) 0) refl (rw e at g))
+    where
+      go : (b : Bool) → eqb (replayRejection w) 0 ≡ b
+          → cond b (goesOn (reported Spent 0 0 0) 17) (ended (reported (NotTried (replayRejection w)) 0 0 0)) .going ≡ false
+          → Tallying t₀ w log budget w (cond b (goesOn (reported Spent 0 0 0) 17) (ended (reported (NotTried (replayRejection w)) 0 0 0))) t₀
+      go true q h = absurd (true≢false h)
+      go false q h =
+          record {
+            long = refl;
+            on = λ k. absurd (true≢false (sym k));
+            over = λ k. (returned w log budget (rw q), (rw q, rw q));
+          }
+
+  -- it goes on, with nothing counted
+  pub begins-on : p .going ≡ true → Tallying t₀ w log budget w p nothingCounted
+  unfolding begun
+  begins-on g = rw e (go (eqb (replayRejection w) 0) refl (rw e at g))
+    where
+      go : (b : Bool) → eqb (replayRejection w) 0 ≡ b
+          → cond b (goesOn (reported Spent 0 0 0) 17) (ended (reported (NotTried (replayRejection w)) 0 0 0)) .going ≡ true
+          → Tallying t₀ w log budget w (cond b (goesOn (reported Spent 0 0 0) 17) (ended (reported (NotTried (replayRejection w)) 0 0 0))) nothingCounted
+      go true q h =
+          let z : replayRejection w ≡ 0 = eqb-true (replayRejection w) 0 q in
+          record {
+            long = refl;
+            on = λ k.
+                record {
+                  accepted = z;
+                  running = start w log budget (formed w log budget refl z);
+                  tally-is = simp sub-zero;
+                  few = λ j b. rw (nothing-at j b) (omega arith);
+                  sixteen = nothing-long;
+                };
+            over = λ k. absurd (true≢false k);
+          }
+      go false q h = absurd (true≢false (sym h))
 
 -- ---- a turn
 module _ {w₀ log : List ℕ} {budget : ℕ} {w : List ℕ} {r : Report} {t : Tally} (t₀ : Tally) (u : Underway w₀ log budget w r t) where

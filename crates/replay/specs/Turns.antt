@@ -1,23 +1,27 @@
 -- A replay at one of its turns, as the functions inside need it: what is still to come, together with what was counted, is what the whole replay
 -- reports, leaves and tallies.
-use Prim.Native.Nat.{ℕ, _-_, _≤_, _<_}
+use Prim.Native.Nat.{ℕ, _+_, _-_, _≤_, _<_}
 use mathlib.Core.Path.{_≡_}
-use mathlib.Core.Bool.{true, false}
+use mathlib.Core.Bool.{true, false, cond}
 use mathlib.Core.List.{List}
+use lib.Dec.{leb, eqb}
 use lib.ListN.{length, drop}
 use Rattle.model.specs.declared.step.Step.{Step}
+use Rattle.model.specs.declared.Reading.{Reading}
+use Rattle.model.specs.declared.Reading.the-variants.{Step as Read, End, Rejected as NotRead}
 use Rattle.model.specs.declared.Report.{Report}
+use Rattle.model.specs.declared.Stop.the-variants.{Ended, Spent, Damaged, Rejected as NotTried}
 use Rattle.model.specs.Kinds.{kindOf}
 use Rattle.model.specs.Rules.{Known}
-use Rattle.model.specs.Steps.{rejection}
-use Rattle.model.specs.Log.{readLog}
+use Rattle.model.specs.Steps.{rejection, after}
+use Rattle.model.specs.Log.{readAt, readLog}
 use Rattle.model.specs.Replay.{replayRejection, afterReplay}
 use Rattle.lookup.specs.Ready.{Formed}
 use Rattle.replay.specs.declared.tally.Tally.{Tally}
 use Rattle.replay.specs.declared.turns.Progress.{Progress}
 use Rattle.replay.specs.Returns.{Returns}
-use Rattle.replay.specs.Run.{Running}
-use Rattle.replay.specs.Tally.{noHost, tallyAfter}
+use Rattle.replay.specs.Run.{reported, Running}
+use Rattle.replay.specs.Tally.{noHost, countOf, tallyAfter}
 use Rattle.replay.specs.Counts.{countAt, countedIn, Room, nothingCounted, tallyFrom}
 
 -- a run at one of its turns, with the tally t of the steps tried so far
@@ -58,16 +62,34 @@ pub record Turning (w log : List ℕ) (budget : ℕ) (r : Report) : Type 0 where
   pub t : Tally
   pub underway : Underway w₀ log budget w r t
 
--- what it gives, whatever the replay began with
-abbrev pub Turns : List ℕ → List ℕ → ℕ → Report → List ℕ → Progress → Type 0
-Turns w log budget r w′ p =
-    (t₀ : Tally) (w₀ : List ℕ) (t : Tally) → Underway w₀ log budget w r t → Turned t₀ w₀ log budget r w′ p t
+-- ---- what `begin` and `turn` answer and leave
 
--- how a replay begins: with nothing counted, or over at once
-abbrev pub Begins : List ℕ → Progress → Type 0
-Begins w p =
-    (t₀ : Tally) (log : List ℕ) (budget : ℕ)
-    → (p .going ≡ true → Tallying t₀ w log budget w p nothingCounted) × (p .going ≡ false → Tallying t₀ w log budget w p t₀)
+-- a replay begins with nothing tried, or is over at once
+unfoldable pub begun : List ℕ → Progress
+begun w =
+    cond (eqb (replayRejection w) 0) (goesOn (reported Spent 0 0 0) noCount) (ended (reported (NotTried (replayRejection w)) 0 0 0))
+
+-- a turn with what is read at its position: a step is tried, and counts where it is rejected
+unfoldable pub turnRead : List ℕ → Report → Reading → Progress
+turnRead w r (Read s next) =
+    cond (eqb (rejection w s) 0) (goesOn (reported Spent (r .tried + 1) (r .rejected) next) noCount)
+    (goesOn (reported Spent (r .tried + 1) (r .rejected + 1) next) (countOf w s))
+turnRead w r End = ended (reported Ended (r .tried) (r .rejected) (r .bytes))
+turnRead w r (NotRead d) = ended (reported (Damaged d) (r .tried) (r .rejected) (r .bytes))
+
+unfoldable pub stateRead : List ℕ → Reading → List ℕ
+stateRead w (Read s next) = after w s
+stateRead w End = w
+stateRead w (NotRead d) = w
+
+-- a turn after the report r, and the state after it; where the budget is used up, nothing is read
+unfoldable pub turnOf : List ℕ → List ℕ → ℕ → Report → Progress
+turnOf w log budget r =
+    cond (leb budget (r .tried)) (ended (reported (cond (leb (length log) (r .bytes)) Ended Spent) (r .tried) (r .rejected) (r .bytes)))
+    (turnRead w r (readAt log (r .bytes)))
+
+unfoldable pub turnState : List ℕ → List ℕ → ℕ → Report → List ℕ
+turnState w log budget r = cond (leb budget (r .tried)) w (stateRead w (readAt log (r .bytes)))
 
 -- a step that was rejected, as it is looked at for its host
 pub record Rejected (w : List ℕ) (s : Step) (answer : ℕ) : Type 0 where

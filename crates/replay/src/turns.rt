@@ -7,7 +7,7 @@ use model::Stop;
 use model::step::Step;
 ghost use mathlib.Core.Path.{_≡_};
 ghost use Rattle.replay.specs.Tally.{namedHost, countOf};
-ghost use Rattle.replay.specs.Turns.{Begins, Turning, Turns, Rejected, ended, goesOn};
+ghost use Rattle.replay.specs.Turns.{begun, Turning, turnOf, turnState, Rejected, ended, goesOn};
 
 // No count is to be one more.
 const NO_COUNT: u64 = 17;
@@ -21,7 +21,7 @@ pub struct Progress {
 
 // The beginning: nothing tried, or rejected (1 or 9). It has the state as `turn` has it, and leaves it.
 pub fn begin(state: &mut [u64]) -> Progress
-    ensures { λ r. ⌜ Begins (now (state .entry)) r ⌝ }
+    ensures { λ r. ⌜ r ≡ begun (now (state .entry)) ⌝ }
     ensures { λ _. ⌜ now (state .exit) ≡ now (state .entry) ⌝ }
 {
     let early = wellformed::state_rejection(state);
@@ -34,7 +34,8 @@ pub fn begin(state: &mut [u64]) -> Progress
 // The next step is tried; or the replay is over, where the budget is used up or no whole step is left.
 pub fn turn(state: &mut [u64], log: &[u8], budget: u64, before: Report) -> Progress
     requires { ⌜ Turning (now state) (now log) budget before ⌝ }
-    ensures { λ r. ⌜ Turns (now (state .entry)) (now (log .entry)) budget before (now (state .exit)) r ⌝ }
+    ensures { λ r. ⌜ (r ≡ turnOf (now (state .entry)) (now (log .entry)) budget before)
+        × (now (state .exit) ≡ turnState (now (state .entry)) (now (log .entry)) budget before) ⌝ }
 {
     let at = before.bytes as usize;
     let tried = before.tried;

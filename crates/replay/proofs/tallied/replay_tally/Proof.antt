@@ -59,7 +59,7 @@ use Rattle.replay.specs.declared.turns.Progress.{Progress}
 use Rattle.replay.specs.Returns.{Returns}
 use Rattle.replay.specs.Tally.{tallyAfter}
 use Rattle.replay.specs.Counts.{Room, countedIn, nothingCounted}
-use Rattle.replay.specs.Turns.{Begins, Tallying, Turned, Turns}
+use Rattle.replay.specs.Turns.{Tallying, Turned, begun}
 use Rattle.replay.proofs.tallied.replay_tally.Proof.Again as Slice
 use Rattle.replay.proofs.tally.Tally as T
 use Rattle.replay.proofs.tally.Tally.Laws as T′
@@ -86,6 +86,8 @@ use Rattle.replay.proofs.tallied.replay_tally.Proof.Callees as calls
 use Rattle.replay.proofs.tallied.replay_tally.Proof.Locals.{word, state, log, tally, lent, lent-tally, counting, left, fewer, holds, fails}
 use Rattle.replay.proofs.tallied.replay_tally.Proof.Locals.{progressVal, IsProgress, known, its-report, its-count}
 use Rattle.replay.proofs.ThreeFacts.{says-three}
+use Rattle.replay.proofs.Turning.{begins-on, begins-over}
+use Rattle.replay.proofs.TurnExits.{Turns, turns-on}
 mod Again
 mod Callees
 mod Locals
@@ -313,7 +315,7 @@ module _ {M : Type 1} (𝓤 : URA M) (H : Heap 𝓤) (A : Atoms 𝓤) (W : Given
           (λ c. k w′ p′ t (known p′ v (g .0)) (turned w′ p′ (g .1 .0) .skips c) (less w′ p′ (g .1 .0))))))))))
         where
           turned : (w′ : List ℕ) (p′ : Progress) → Turns w (lg .now) budget (p .report) w′ p′ → Turned t₀ w₀ (lg .now) budget (p .report) w′ p′ t
-          turned w′ p′ g = g t₀ w₀ t (inv .on on)
+          turned w′ p′ g = turns-on t₀ (inv .on on) fits g
 
           less : (w′ : List ℕ) (p′ : Progress) → Turns w (lg .now) budget (p .report) w′ p′ → left budget p′ < left budget p
           less w′ p′ g = fewer budget p p′ on (turned w′ p′ g .less)
@@ -388,7 +390,7 @@ module _ {M : Type 1} (𝓤 : URA M) (H : Heap 𝓤) (A : Atoms 𝓤) (W : Given
           (loop-rule 𝓤 H (W .laws) 𝓣 _<_ (Nat·lt-wfRel .wf) En Mir.turn-1 Left Going turns (left budget p))
 
       -- ---- the tally is started from zero, or left
-      starts : (p : Progress) → IsProgress p → Begins w₀ p
+      starts : (p : Progress) → IsProgress p → p ≡ begun w₀
           → ent 𝓤 (⋆ 𝓤 H A (With w₀ t₀ (Progressing p) (fat fullShare tyBool l₈ 0 (vbool (p .going))) (froom tyBool l₁₀ 0)))
           (Wp 𝓤 H C Λ En Mir.t-5 (atReturn 𝓤 H En Post))
       starts p is begins =
@@ -409,9 +411,9 @@ module _ {M : Type 1} (𝓤 : URA M) (H : Heap 𝓤) (A : Atoms 𝓤) (W : Given
           move ! (1 ∷ []) $ drop ! $ owned ! T.the-row (Is T.the-row) ((LL.makes T.the-type T′.the-plain) 𝓤 H A) nothingCounted _ z $ move ! (1 ∷ 0 ∷ []) $
           closes ! tt T.the-row nothingCounted (v ∷ []) b₂ o₂ $ feqI ! (List Val) (vptr b₂ o₂ ∷ []) (vptr b₂ o₂ ∷ []) refl $ fjoin3 ! $
           move ! (2 ∷ 3 ∷ 4 ∷ 5 ∷ 0 ∷ 1 ∷ []) $ forget ! 19 refl $ forget ! 20 refl $
-          by ! (loops w₀ p nothingCounted is (begins t₀ (lg .now) budget .0 (holds (p .going) h)))))))
+          by ! (loops w₀ p nothingCounted is (begins-on w₀ begins t₀ (lg .now) budget (holds (p .going) h)))))))
           (λ h. skips ! $ exec ! C Λ En Mir.t-6 (atRet En Post) $ forget ! 19 refl $
-          by ! (loops w₀ p t₀ is (begins t₀ (lg .now) budget .1 (fails (p .going) h))))
+          by ! (loops w₀ p t₀ is (begins-over w₀ begins t₀ (lg .now) budget (fails (p .going) h))))
 
       -- ---- the call of `begin`
       begins : ent 𝓤 (⋆ 𝓤 H A (With w₀ t₀ (froom P′.mir l₅ 0) (froom tyBool l₈ 0) (froom tyBool l₁₀ 0))) (Wp 𝓤 H C Λ En Mir.t-1 (atReturn 𝓤 H En Post))

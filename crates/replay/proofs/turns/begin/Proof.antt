@@ -1,6 +1,6 @@
 -- `replay::turns::begin` meets its contract.
 use mathlib.Core.Path.{refl}
-use Rattle.replay.proofs.Turning.{begins-over, begins-on}
+use Rattle.replay.proofs.Turning.{begun-over, begun-on}
 use borrow.Author.Needs.{needs}
 use Rattle.replay.proofs.turns.begin.Statement.{statement}
 use Rattle.replay.proofs.turns.begin.Tie as tie
@@ -21,7 +21,7 @@ returns : tie.Need-returns
 returns c =
     let t = c .before .before in
     let w = t .before .before .before .before .args .state .now in (
-      rw (c .over .ensures, c .before .stopped .ensures) (begins-over w (t .before .state-rejection .ensures) (t .if1 .taken)),
+      rw (c .over .ensures, c .before .stopped .ensures) (begun-over w (t .before .state-rejection .ensures) (t .if1 .taken)),
       refl,
     )
 
@@ -38,7 +38,7 @@ returns-2 : tie.Need-returns-2
 returns-2 c =
     let t = c .before .before in
     let w = t .before .before .before .before .args .state .now in (
-      rw (c .on .ensures, c .before .stopped2 .ensures) (begins-on w (t .before .state-rejection .ensures) (t .if1 .left)),
+      rw (c .on .ensures, c .before .stopped2 .ensures) (begun-on w (t .before .state-rejection .ensures) (t .if1 .left)),
       refl,
     )
 

@@ -4,8 +4,8 @@ use native.Mathlib.Omega.{arith}
 use mathlib.Core.Path.{sym, _∙_}
 use lib.ListN.{length}
 use Rattle.replay.specs.Counts.{nothingCounted}
-use Rattle.replay.proofs.Rest.{reads-end, reads-damage, reads-all, reads-part}
-use Rattle.replay.proofs.Turning.{stops-here, accepts-one, rejects-one, has-host}
+use Rattle.replay.proofs.TurnExits.{exit-ended, exit-spent, exit-end, exit-damaged, exit-accepted, exit-rejected}
+use Rattle.replay.proofs.Turning.{has-host}
 use borrow.Author.Needs.{needs}
 use Rattle.replay.proofs.turns.turn.Statement.{statement}
 use Rattle.replay.proofs.turns.turn.Tie as tie
@@ -17,9 +17,9 @@ over-requires : tie.Need-over-requires
 over-requires c κs = search needs
 
 returns : tie.Need-returns
-returns c t₀ w₀ t u =
+returns c =
     rw (c .over .ensures, c .before .stopped .ensures)
-    (stops-here t₀ u (reads-all _ _ _ _ (c .before .before .before .if1 .taken) (c .before .before .if2 .taken)))
+    (exit-ended _ _ _ _ (c .before .before .before .if1 .taken) (c .before .before .if2 .taken))
 
 stopped-requires-2 : tie.Need-stopped-requires-2
 stopped-requires-2 c κs = search needs
@@ -28,11 +28,11 @@ over-requires-2 : tie.Need-over-requires-2
 over-requires-2 c κs = search needs
 
 returns-2 : tie.Need-returns-2
-returns-2 c t₀ w₀ t u =
+returns-2 c =
     let a = c .before .before .before .before .before .before .args in
     let more : a .before .bytes < length (a .log .now) = omega (arith, c .before .before .if2 .left) in
     rw (c .over2 .ensures, c .before .stopped2 .ensures)
-    (stops-here t₀ u (reads-part _ _ _ _ (c .before .before .before .if1 .taken) more))
+    (exit-spent _ _ _ _ (c .before .before .before .if1 .taken) more)
 
 read-step-requires : tie.Need-read-step-requires
 read-step-requires c κs = search needs
@@ -56,14 +56,14 @@ same-length : tie.Need-same-length
 same-length c = search needs
 
 returns-3 : tie.Need-returns-3
-returns-3 c t₀ w₀ t u =
+returns-3 c =
     let m = c .before .before .before .before .before in
     let s = m .before .before .before in
     let r = s .before .before in
     let e = sym (r .read-step .ensures .1 .1 .1) ∙ s .step .given .1 in
     let f = m .step-inside .ensures in
     rw (c .on .ensures, c .before .stopped3 .ensures)
-    (accepts-one t₀ u (s .step .given .0 .0) (s .step .given .0 .1 .0) (r .before .if1 .left) e (f .0) (f .1) (c .before .before .if3 .taken))
+    (exit-accepted _ _ _ _ (r .before .if1 .left) (s .step .given .0 .0) (s .step .given .0 .1 .0) e (f .0) (f .1) (c .before .before .if3 .taken))
 
 count-of-requires : tie.Need-count-of-requires
 count-of-requires c κs =
@@ -109,28 +109,28 @@ same-length-2 : tie.Need-same-length-2
 same-length-2 c = search needs
 
 returns-4 : tie.Need-returns-4
-returns-4 c t₀ w₀ t u =
+returns-4 c =
     let m = c .before .before .before .before .before .before .before in
     let s = m .before .before .before in
     let r = s .before .before in
     let e = sym (r .read-step .ensures .1 .1 .1) ∙ s .step .given .1 in
     let f = m .step-inside .ensures in
     rw (c .on2 .ensures, c .before .stopped4 .ensures)
-    (rejects-one t₀ u (s .step .given .0 .0) (s .step .given .0 .1 .0) (r .before .if1 .left) e (f .0) (f .1)
-    (c .before .before .before .before .if3 .left) (omega (arith, u .running .rest .fewer, r .before .if1 .left)) (c .before .before .count-of .ensures))
+    (exit-rejected _ _ _ _ (r .before .if1 .left) (s .step .given .0 .0) (s .step .given .0 .1 .0) e (f .0) (f .1)
+    (c .before .before .before .before .if3 .left) (c .before .before .count-of .ensures))
 
 returns-5 : tie.Need-returns-5
-returns-5 c t₀ w₀ t u =
+returns-5 c =
     let r = c .before .before .before .before in
     let e = sym (r .read-step .ensures .1 .1 .1) ∙ c .before .before .enum-told .given .1 in
-    rw (c .over3 .ensures, c .before .stopped5 .ensures) (stops-here t₀ u (reads-end _ _ _ _ (r .before .if1 .left) e))
+    rw (c .over3 .ensures, c .before .stopped5 .ensures) (exit-end _ _ _ _ (r .before .if1 .left) e)
 
 returns-6 : tie.Need-returns-6
-returns-6 c t₀ w₀ t u =
+returns-6 c =
     let k = c .before .before .before in
     let r = k .before .before in
     let e = sym (r .read-step .ensures .1 .1 .1) ∙ k .r .given .1 in
-    rw (c .over4 .ensures, c .before .stopped6 .ensures) (stops-here t₀ u (reads-damage _ _ _ _ (k .r .given .0 .0) (r .before .if1 .left) e))
+    rw (c .over4 .ensures, c .before .stopped6 .ensures) (exit-damaged _ _ _ _ (r .before .if1 .left) (k .r .given .0 .0) e)
 
 pub turn-spec : {M : Type 1} → statement M
 turn-spec =

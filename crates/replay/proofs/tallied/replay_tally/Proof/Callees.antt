@@ -35,7 +35,8 @@ use Rattle.model.proofs.Report.Laws as R′
 use Rattle.replay.specs.declared.tally.Tally.{Tally}
 use Rattle.replay.specs.declared.turns.Progress.{Progress}
 use Rattle.replay.specs.Counts.{Room, countedIn, nothingCounted}
-use Rattle.replay.specs.Turns.{Begins, Turning, Turns}
+use Rattle.replay.specs.Turns.{begun, Turning}
+use Rattle.replay.proofs.TurnExits.{Turns}
 use Rattle.replay.proofs.tally.Tally as T
 use Rattle.replay.proofs.turns.Progress as P
 use Rattle.replay.proofs.turns.begin as begin
@@ -73,7 +74,7 @@ module _ {M : Type 1} (𝓤 : URA M) (H : Heap 𝓤) (A : Atoms 𝓤) (W : Given
       nothing ! $ move ! (1 ∷ 0 ∷ []) $ join ! $ nothing ! $ move ! (2 ∷ 0 ∷ []) $ fjoin ! $ move ! (1 ∷ 0 ∷ []) $ join ! $ frame ! $ done !
 
   abbrev pub Begun : Val → Progress → Type 0
-  Begun v p = Is P.the-row p (v ∷ []) × Begins (x .now) p
+  Begun v p = Is P.the-row p (v ∷ []) × (p ≡ begun (x .now))
 
   pub gives-begin : (v : Val) → ent 𝓤 (Begin 𝓤 H A mem run .post to-begin v)
       (H .⇛ (ex 𝓤 (λ (p : Progress). guard 𝓤 (Begun v p) (sep 𝓤 (A .lft (ν ∷ []) fullShare) (sem 𝓤 H A (finally u64 (x .name) (x .now)))))))
@@ -83,8 +84,8 @@ module _ {M : Type 1} (𝓤 : URA M) (H : Heap 𝓤) (A : Atoms 𝓤) (W : Given
       ⊛ raw (ensured 𝓤 H A begin.ended (begin.clauses 𝓤 H A mem run) (ν ∷ [], tt) (x, tt) tt p)))) (id⊢ 𝓤 _) $ await ! tt $
       pick ! (λ p. split ! $ move ! (1 ∷ []) $
       use1 W (some (λ (zs : List ℕ × Unit {0}). ‵ (lasts begin.ended (ν ∷ [], tt) (x, tt) zs) ⊛
-      (raw (fact 𝓤 (Begins (x .now) p)) ⊛ raw (fact 𝓤 (zs .0 ≡ x .now)))))
-      (id⊢ 𝓤 _) $ pick ! (λ zs. split ! $ move ! (1 ∷ []) $ split ! $ heard ! (Begins (x .now) p) (λ e. heard ! (zs .0 ≡ x .now) (λ f.
+      (raw (fact 𝓤 (p ≡ begun (x .now))) ⊛ raw (fact 𝓤 (zs .0 ≡ x .now)))))
+      (id⊢ 𝓤 _) $ pick ! (λ zs. split ! $ move ! (1 ∷ []) $ split ! $ heard ! (p ≡ begun (x .now)) (λ e. heard ! (zs .0 ≡ x .now) (λ f.
       -- [what is said of the last list; the token and the result]
       fsplit ! $ fsplit ! $ rewrite ! 0 (λ (ys : List ℕ). ‵ (finally u64 (x .name) ys)) f refl $ move ! (3 ∷ []) $ split ! $ move ! (1 ∷ []) $
       peeks ! P.the-row (Is P.the-row) (shows 𝓤 H A P.the-row) p (v ∷ []) (λ is. move ! (1 ∷ []) $ split ! $ at-once ! $

@@ -1,0 +1,104 @@
+-- A turn of a replay that keeps a tally: what it is at each of its exits, and what it does to a replay that is under way.
+-- Assumes nothing.
+use Prim.Native.Nat.{ℕ, _+_, _≤_, _<_, _^_}
+use native.Mathlib.Omega.{arith}
+use mathlib.Core.Path.{_≡_, refl, sym, ap, _∙_}
+use mathlib.Core.Bool.{Bool, true, false, cond}
+use mathlib.Core.List.{List}
+use lib.Dec.{leb, eqb}
+use lib.ListN.{length}
+use borrow.Author.Tests.{le-leb, lt-leb, leb-true, leb-false, eq-eqb, ne-eqb, eqb-true, eqb-false}
+use Rattle.model.specs.declared.step.Step.{Step}
+use Rattle.model.specs.declared.Reading.{Reading}
+use Rattle.model.specs.declared.Reading.the-variants.{Step as Read, End, Rejected as Damage}
+use Rattle.model.specs.declared.Stop.the-variants.{Ended, Spent, Damaged}
+use Rattle.model.specs.declared.Report.{Report}
+use Rattle.model.specs.Steps.{rejection, after}
+use Rattle.model.specs.Log.{readAt}
+use Rattle.model.proofs.WellFormedSteps.{after-rejected}
+use Rattle.replay.specs.declared.tally.Tally.{Tally}
+use Rattle.replay.specs.declared.turns.Progress.{Progress}
+use Rattle.replay.specs.Run.{reported}
+use Rattle.replay.specs.Tally.{countOf}
+use Rattle.replay.specs.Turns.{Underway, Turned, ended, goesOn, turnRead, stateRead, turnOf, turnState}
+use Rattle.replay.proofs.Rest.{reads-end, reads-damage, reads-all, reads-part}
+use Rattle.replay.proofs.Turning.{stops-here, accepts-one, rejects-one}
+
+-- what a turn answers and leaves
+abbrev pub Turns : List ℕ → List ℕ → ℕ → Report → List ℕ → Progress → Type 0
+Turns w log budget r v p = (p ≡ turnOf w log budget r) × (v ≡ turnState w log budget r)
+
+-- ---- .. at each of its exits
+module _ (w log : List ℕ) (budget : ℕ) (r : Report) where
+  pub exit-ended : budget ≤ r .tried → length log ≤ r .bytes
+      → Turns w log budget r w (ended (reported Ended (r .tried) (r .rejected) (r .bytes)))
+  unfolding turnOf turnState
+  exit-ended h l = (rw (le-leb budget (r .tried) h, le-leb (length log) (r .bytes) l), rw (le-leb budget (r .tried) h))
+
+  pub exit-spent : budget ≤ r .tried → r .bytes < length log
+      → Turns w log budget r w (ended (reported Spent (r .tried) (r .rejected) (r .bytes)))
+  unfolding turnOf turnState
+  exit-spent h l = (rw (le-leb budget (r .tried) h, lt-leb (length log) (r .bytes) l), rw (le-leb budget (r .tried) h))
+
+  module _ (h : r .tried < budget) where
+    pub exit-end : readAt log (r .bytes) ≡ End
+        → Turns w log budget r w (ended (reported Ended (r .tried) (r .rejected) (r .bytes)))
+    unfolding turnOf turnState turnRead stateRead
+    exit-end e = (rw (lt-leb budget (r .tried) h, e), rw (lt-leb budget (r .tried) h, e))
+
+    pub exit-damaged : (d : ℕ) → readAt log (r .bytes) ≡ Damage d
+        → Turns w log budget r w (ended (reported (Damaged d) (r .tried) (r .rejected) (r .bytes)))
+    unfolding turnOf turnState turnRead stateRead
+    exit-damaged d e = (rw (lt-leb budget (r .tried) h, e), rw (lt-leb budget (r .tried) h, e))
+
+    -- a is the step's answer, and v the state that it leaves
+    module _ (s : Step) (next : ℕ) (e : readAt log (r .bytes) ≡ Read s next) {a : ℕ} (p : a ≡ rejection w s) {v : List ℕ} (q : v ≡ after w s) where
+      left-is : v ≡ turnState w log budget r
+      unfolding turnState stateRead
+      left-is = q ∙ rw (lt-leb budget (r .tried) h, e)
+
+      pub exit-accepted : a ≡ 0
+          → Turns w log budget r v (goesOn (reported Spent (r .tried + 1) (r .rejected) next) 17)
+      unfolding turnOf turnRead
+      exit-accepted z = (rw (lt-leb budget (r .tried) h, e, sym p, eq-eqb a 0 z), left-is)
+
+      pub exit-rejected : (a ≡ 0 → ⊥) → {k : ℕ} → k ≡ countOf v s
+          → Turns w log budget r v (goesOn (reported Spent (r .tried + 1) (r .rejected + 1) next) k)
+      unfolding turnOf turnRead
+      exit-rejected n {k} c =
+          let is : v ≡ w = q ∙ after-rejected w s (λ z. n (p ∙ z)) in
+          let here : k ≡ countOf w s = c ∙ ap (λ (x : List ℕ). countOf x s) is in
+          (rw (here, lt-leb budget (r .tried) h, e, sym p, ne-eqb a 0 n), left-is)
+
+-- ---- .. and what it does to a replay under way
+module _ {w₀ log : List ℕ} {budget : ℕ} {w : List ℕ} {r : Report} {t : Tally} (t₀ : Tally) (u : Underway w₀ log budget w r t) (small : budget < 2 ^ 64) where
+  pub turns-on : {p : Progress} {v : List ℕ} → Turns w log budget r v p → Turned t₀ w₀ log budget r v p t
+  unfolding turnOf turnState turnRead stateRead
+  turns-on e = rw (e .0, e .1) (by-budget (leb budget (r .tried)) refl)
+    where
+      by-bytes : budget ≤ r .tried → (b : Bool) → leb (length log) (r .bytes) ≡ b
+          → Turned t₀ w₀ log budget r w (ended (reported (cond b Ended Spent) (r .tried) (r .rejected) (r .bytes))) t
+      by-bytes l true h = stops-here t₀ u (reads-all log budget (r .bytes) (r .tried) l (leb-true (length log) (r .bytes) h))
+      by-bytes l false h = stops-here t₀ u (reads-part log budget (r .bytes) (r .tried) l (leb-false (length log) (r .bytes) h))
+
+      by-answer : (s : Step) (next : ℕ) → r .tried < budget → readAt log (r .bytes) ≡ Read s next → (b : Bool) → eqb (rejection w s) 0 ≡ b
+          → Turned t₀ w₀ log budget r (after w s)
+          (cond b (goesOn (reported Spent (r .tried + 1) (r .rejected) next) 17)
+          (goesOn (reported Spent (r .tried + 1) (r .rejected + 1) next) (countOf w s))) t
+      by-answer s next l h true z = accepts-one t₀ u s next l h refl refl (eqb-true (rejection w s) 0 z)
+      by-answer s next l h false z =
+          let no : rejection w s ≡ 0 → ⊥ = eqb-false (rejection w s) 0 z in
+          let fits : r .rejected + 1 < 2 ^ 64 = omega (arith, small, l, u .running .rest .fewer) in
+          rejects-one t₀ u s next l h refl refl no fits (ap (λ (x : List ℕ). countOf x s) (sym (after-rejected w s no)))
+
+      by-reading : r .tried < budget → (x : Reading) → readAt log (r .bytes) ≡ x → Turned t₀ w₀ log budget r (stateRead w x) (turnRead w r x) t
+      by-reading l (Read s next) h = by-answer s next l h (eqb (rejection w s) 0) refl
+      by-reading l End h = stops-here t₀ u (reads-end log budget (r .bytes) (r .tried) l h)
+      by-reading l (Damage d) h = stops-here t₀ u (reads-damage log budget (r .bytes) (r .tried) d l h)
+
+      by-budget : (b : Bool) → leb budget (r .tried) ≡ b
+          → Turned t₀ w₀ log budget r (cond b w (stateRead w (readAt log (r .bytes))))
+          (cond b (ended (reported (cond (leb (length log) (r .bytes)) Ended Spent) (r .tried) (r .rejected) (r .bytes)))
+          (turnRead w r (readAt log (r .bytes)))) t
+      by-budget true q = by-bytes (leb-true budget (r .tried) q) (leb (length log) (r .bytes)) refl
+      by-budget false q = by-reading (leb-false budget (r .tried) q) (readAt log (r .bytes)) refl
