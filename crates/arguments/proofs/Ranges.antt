@@ -65,11 +65,11 @@ module _ (Z : ℕ) (s : Step) {k : Kind} {r : Rules} (o : k ≡ kindOf (s .kind)
     unfolding argumentRejection firstOf
     argument-is = rw (← o, known .notKept, known .known)
 
-    -- the shard a, the test of it and of the index, t, and that of the numbers, u
-    module _ {a : ℕ} (g : a ≡ shardOf s) {t : Bool} (p : t ≡ isIndexOf Z a (s .b)) where
+    -- the test of the shard and of the index, t, and that of the numbers, u
+    module _ {t : Bool} (p : t ≡ isIndexOf Z (s .a) (s .b)) where
       range-is : inRange Z s ≡ (t && areNumbers k Z (s .c) (s .d))
       unfolding inRange isIndexOf shardOf
-      range-is = rw (p, g, o)
+      range-is = rw (p, o)
 
       pub no-index : not t ≡ true → 7 ≡ argumentRejection Z s
       no-index n = rw (argument-is, range-is, not-true t n)

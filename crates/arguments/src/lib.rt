@@ -1,7 +1,8 @@
 // The numbers of a step: which kinds are kept or unknown, and which numbers are out of range. No state is needed for this but its number of shards.
 use model::kind::Kind;
-use model::step::Step;
 ghost use mathlib.Core.Path.{_≡_};
+ghost use mathlib.Core.List.{[], _∷_};
+ghost use Rattle.model.specs.Log.{stepOf};
 ghost use Rattle.model.specs.Rules.{Known};
 ghost use Rattle.model.specs.Steps.{areNumbers};
 ghost use Rattle.arguments.specs.Numbers.{isIndexOf, argumentRejection};
@@ -34,19 +35,19 @@ pub fn are_numbers(kind: Kind, shards: usize, c: u64, d: u64) -> bool
     wellformed::entry::is_entry(shards, c)
 }
 
-// Rejections 3, 4 and 7 of a step, where there are `shards` shards; 0 where none applies.
-pub fn rejection(shards: usize, s: Step) -> u64
-    ensures { λ r. ⌜ r ≡ argumentRejection shards s ⌝ }
+// Rejections 3, 4 and 7 of a step of these numbers, where there are `shards` shards; 0 where none applies.
+pub fn numbers_rejection(shards: usize, number: u64, a: u64, b: u64, c: u64, d: u64) -> u64
+    ensures { λ r. ⌜ r ≡ argumentRejection shards (stepOf number (a ∷ b ∷ c ∷ d ∷ [])) ⌝ }
 {
-    let kind = Kind::of(s.kind);
+    let kind = Kind::of(number);
     let bad = kind.rules().rejection;
     if bad != 0 {
         return bad;
     }
-    if !is_index_of(shards, s.shard(), s.b) {
+    if !is_index_of(shards, a, b) {
         return 7;
     }
-    if !are_numbers(kind, shards, s.c, s.d) {
+    if !are_numbers(kind, shards, c, d) {
         return 7;
     }
     0

@@ -8,4 +8,5 @@ mod steps;
 mod tallies;
 mod traces;
 mod transcripts;
+mod usual;
 mod words;

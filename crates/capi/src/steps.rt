@@ -1,4 +1,6 @@
 // One step from bytes and to bytes.
+use crate::usual::put_long_add;
+use crate::usual::put_short;
 use crate::words::put_step;
 use crate::words::put_writing;
 use model::Reading;
@@ -19,6 +21,14 @@ pub extern "C" fn penkwadar_read_step(log: &[u8], at: usize, step: &mut [u64]) -
     }
     if log.len() <= at {
         put_step(step, 0, 0, 0, 0, 0, 0);
+        return 0;
+    }
+    if log::short::is_short(log, at) {
+        put_short(step, log, at);
+        return 0;
+    }
+    if log::long::is_long_add(log, at) {
+        put_long_add(step, log, at);
         return 0;
     }
     match log::reader::first_step(&log[at..]) {

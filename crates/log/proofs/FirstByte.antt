@@ -5,7 +5,7 @@ use mathlib.Core.Path.{_≡_}
 use mathlib.Core.Bool.{true, false, true≢false}
 use mathlib.Core.List.{List}
 use lib.ListN.{length, drop, getD, drop-of-length-le}
-use lib.Seq.{drop-cons}
+use lib.Seq.{drop-cons, drop-drop}
 use Rattle.model.specs.declared.Number.the-variants.{Value, Rejected}
 use Rattle.model.specs.Numbers.{readGroups, readNumber, withLower}
 use Rattle.model.proofs.Numbers.{read-last, read-more}
@@ -27,3 +27,9 @@ module _ (log : List ℕ) (at : ℕ) where
         128 ≤ getD log at 0 → readNumber (drop at log) ≡ withLower (getD log at 0 % 128) (readGroups 4 false (drop (at + 1) log))
     unfolding readNumber
     read-several l = rw (add-one, drop-cons log at 0 h) (read-more 4 true (getD log at 0) _ l)
+
+-- the only byte of a number that begins i bytes after a position
+pub read-one-after :
+    (log : List ℕ) (at i : ℕ) → at + i < length log → getD log (at + i) 0 < 128
+    → readNumber (drop i (drop at log)) ≡ Value (getD log (at + i) 0) 1
+read-one-after log at i h l = rw (drop-drop i at log) (read-one log (at + i) h l)

@@ -1,74 +1,114 @@
--- A step whose numbers have one byte each. Assumes nothing.
+-- A step at a position whose numbers have one byte each. Assumes nothing.
 use Prim.Native.Nat.{ℕ, zero, suc, _+_, _*_, _≤_, _<_}
 use native.Mathlib.Omega.{arith}
-use mathlib.Core.Path.{_≡_, refl}
+use mathlib.Core.Path.{_≡_, refl, sym, _∙_}
+use mathlib.Core.Bool.{Bool, true}
 use mathlib.Core.List.{List, [], _∷_}
-use lib.Dec.{ltb}
-use lib.ListN.{drop, getD}
-use borrow.Author.Tests.{ltb-true}
+use lib.Bits.{bitOr}
+use lib.Dec.{leb, ltb}
+use lib.ListN.{length, drop, getD}
+use borrow.Author.Tests.{leb-true, le-leb, ltb-true}
 use Rattle.model.specs.declared.Number.the-variants.{Value}
-use Rattle.model.specs.declared.Reading.{Reading}
-use Rattle.model.specs.declared.Reading.the-variants.{Step as Read, Rejected}
-use Rattle.model.specs.Kinds.{kindOf}
-use Rattle.model.specs.Log.{stepOf, readStep}
+use Rattle.model.specs.declared.Reading.the-variants.{Step as Read}
+use Rattle.model.specs.Kinds.{kindOf, isKept, isUnknown}
+use Rattle.model.specs.Log.{stepOf, readStep, readAt}
 use Rattle.model.specs.Numbers.{readNumber, readNumbers}
-use Rattle.model.specs.Rules.{kindRejection, Known, fourthNumbers}
-use Rattle.model.proofs.Tests.{all-below}
+use Rattle.model.specs.Rules.{Known, fourthNumbers}
+use Rattle.model.specs.Tests.{allBelow}
+use Rattle.model.proofs.Joined.{or-below}
 use Rattle.model.proofs.Rules.{fourth-most}
-use Rattle.log.specs.Reader.{stepAfter, isShort, Short}
-use Rattle.log.proofs.FirstByte.{read-one}
-use Rattle.log.proofs.StepParts.{step-more, step-done, kind-taken, kind-rejected, first-kind}
+use Rattle.model.proofs.Tests.{Passing, all-pass, all-below}
+use Rattle.log.specs.Reader.{stepAfter}
+use Rattle.log.specs.Short.{isShortAt, shortFourth, shortLength, shortStep}
+use Rattle.log.proofs.FirstByte.{read-one, read-one-after}
+use Rattle.log.proofs.StepParts.{step-more, step-done, three-numbers, step-at}
 
--- at most the number itself is left of it
-pub times-most : (d m : ℕ) → d < 128 → m ≤ 1 → d * m < 128
-times-most d zero h l = let z : d * 0 ≡ 0 = omega arith in rw z (omega arith)
-times-most d (suc zero) h l = let z : d * 1 ≡ d = omega arith in rw z h
-times-most d (suc (suc m)) h l = absurd (omega arith)
+-- the kinds from 1 to 7 are known
+pub kind-told : (k : ℕ) → 1 ≤ k → k ≤ 7 → Known (kindOf k)
+unfolding kindOf isKept isUnknown
+kind-told zero l m = absurd (omega arith)
+kind-told (suc zero) l m = record { notKept = refl; known = refl }
+kind-told (suc (suc zero)) l m = record { notKept = refl; known = refl }
+kind-told (suc (suc (suc zero))) l m = record { notKept = refl; known = refl }
+kind-told (suc (suc (suc (suc zero)))) l m = record { notKept = refl; known = refl }
+kind-told (suc (suc (suc (suc (suc zero))))) l m = record { notKept = refl; known = refl }
+kind-told (suc (suc (suc (suc (suc (suc zero)))))) l m = record { notKept = refl; known = refl }
+kind-told (suc (suc (suc (suc (suc (suc (suc zero))))))) l m = record { notKept = refl; known = refl }
+kind-told (suc (suc (suc (suc (suc (suc (suc (suc k)))))))) l m = absurd (omega arith)
 
-module _ (log : List ℕ) (h : Short log) where
-  abbrev byte : ℕ → ℕ
-  byte i = getD log i 0
+module _ (l : List ℕ) (at : ℕ) where
+  -- the numbers after the kind have one byte each
+  abbrev isOne : ℕ → Bool
+  isOne i = ltb (getD l (at + suc i) 0) 128
 
-  pub byte-small : (i : ℕ) → i < 5 → getD log i 0 < 128
-  unfolding isShort
-  byte-small i l = ltb-true (byte i) 128 (all-below 5 (λ k. ltb (byte k) 128) (h .short) i l)
+  pub short-length-least : 1 ≤ shortLength l at
+  unfolding shortLength
+  short-length-least = omega arith
 
-  one : (i : ℕ) → i < 5 → readNumber (drop i log) ≡ Value (byte i) 1
-  one i l = read-one log i (omega (arith, h .bytes)) (byte-small i l)
+  pub short-length-most : shortLength l at ≤ 5
+  unfolding shortLength
+  short-length-most = omega (arith, fourth-most (getD l at 0))
 
-  -- the first three numbers
-  three :
-      (f : ℕ) {r : Reading} → r ≡ stepAfter (byte 0) (byte 1 ∷ byte 2 ∷ byte 3 ∷ []) 4 (readNumbers f (drop 4 log))
-      → r ≡ stepAfter (byte 0) [] 1 (readNumbers (suc (suc (suc f))) (drop 1 log))
-  three f e =
-      step-more (byte 0) [] log 1 refl (suc (suc f)) (one 1 (omega arith))
-      (step-more (byte 0) (byte 1 ∷ []) log 2 refl (suc f) (one 2 (omega arith))
-      (step-more (byte 0) (byte 1 ∷ byte 2 ∷ []) log 3 refl f (one 3 (omega arith)) e))
+  -- where there are eight bytes and the kind is known, the four bytes joined decide
+  pub short-joined :
+      at + 8 ≤ length l → 1 ≤ getD l at 0 → getD l at 0 ≤ 7
+      → ltb (bitOr (bitOr (bitOr (getD l (at + 1) 0) (getD l (at + 2) 0)) (getD l (at + 3) 0)) (getD l (at + 4) 0)) 128 ≡ isShortAt l at
+  unfolding isShortAt allBelow
+  short-joined f k m =
+      let a : ℕ = getD l (at + 1) 0 in
+      let b : ℕ = getD l (at + 2) 0 in
+      let c : ℕ = getD l (at + 3) 0 in
+      rw (le-leb (at + 8) (length l) f, le-leb 1 (getD l at 0) k, le-leb (getD l at 0) 7 m)
+      (or-below 7 (bitOr (bitOr a b) c) (getD l (at + 4) 0) ∙ rw (or-below 7 (bitOr a b) c, or-below 7 a b))
 
-  -- a fourth one, or 0
-  rest :
-      (f : ℕ) → f ≤ 1
-      → Read (record { kind = byte 0; a = byte 1; b = byte 2; c = byte 3; d = byte 4 * f }) (4 + f)
-      ≡ stepAfter (byte 0) (byte 1 ∷ byte 2 ∷ byte 3 ∷ []) 4 (readNumbers f (drop 4 log))
-  unfolding stepOf
-  rest zero l =
-      let z : byte 4 * 0 ≡ 0 = omega arith in
-      rw z (step-done (byte 0) (byte 1 ∷ byte 2 ∷ byte 3 ∷ []) log 4)
-  rest (suc zero) l =
-      let z : byte 4 * 1 ≡ byte 4 = omega arith in
-      rw z
-      (step-more (byte 0) (byte 1 ∷ byte 2 ∷ byte 3 ∷ []) log 4 refl 0 (one 4 (omega arith))
-      (step-done (byte 0) (byte 1 ∷ byte 2 ∷ byte 3 ∷ byte 4 ∷ []) log 5))
-  rest (suc (suc f)) l = absurd (omega arith)
+  -- the tests after the first
+  abbrev tests : List Bool
+  tests = leb 1 (getD l at 0) ∷ leb (getD l at 0) 7 ∷ allBelow 4 isOne ∷ []
 
-  pub short-read :
-      Known (kindOf (getD log 0 0)) → (f : ℕ) → f ≡ fourthNumbers (getD log 0 0)
-      → Read (record { kind = getD log 0 0; a = getD log 1 0; b = getD log 2 0; c = getD log 3 0; d = getD log 4 0 * f }) (4 + f) ≡ readStep log
-  short-read k f e =
-      rw e
-      (first-kind log (omega (arith, h .bytes)) refl (one 0 (omega arith))
-      (kind-taken log 1 (byte 0) k (three (fourthNumbers (byte 0)) (rest (fourthNumbers (byte 0)) (fourth-most (byte 0))))))
+  module _ (h : isShortAt l at ≡ true) where
+    passed : Passing (leb (at + 8) (length l) ∷ tests)
+    unfolding isShortAt
+    passed = all-pass (leb (at + 8) (length l)) tests h
 
-  pub short-rejected : (r : ℕ) → r ≡ kindRejection (kindOf (getD log 0 0)) → (r ≡ 0 → ⊥) → Rejected r ≡ readStep log
-  short-rejected r e n =
-      first-kind log (omega (arith, h .bytes)) refl (one 0 (omega arith)) (kind-rejected log 1 (byte 0) r e n)
+    pub short-fits : at + 8 ≤ length l
+    short-fits = leb-true _ _ (passed .0)
+
+    pub short-kind-least : 1 ≤ getD l at 0
+    short-kind-least = leb-true _ _ (passed .1 .0)
+
+    pub short-kind-most : getD l at 0 ≤ 7
+    short-kind-most = leb-true _ _ (passed .1 .1 .0)
+
+    pub short-kind : Known (kindOf (getD l at 0))
+    short-kind = kind-told (getD l at 0) short-kind-least short-kind-most
+
+    one : (i : ℕ) → i < 4 → readNumber (drop (suc i) (drop at l)) ≡ Value (getD l (at + suc i) 0) 1
+    one i m =
+        read-one-after l at (suc i) (omega (arith, short-fits)) (ltb-true _ _ (all-below 4 isOne (passed .1 .1 .1 .0) i m))
+
+    -- the fourth number, or 0
+    rest :
+        (k f a b c : ℕ) → f ≤ 1
+        → Read (stepOf k (a ∷ b ∷ c ∷ getD l (at + 4) 0 * f ∷ [])) (4 + f)
+        ≡ stepAfter k (a ∷ b ∷ c ∷ []) 4 (readNumbers f (drop 4 (drop at l)))
+    unfolding stepOf
+    rest k zero a b c m =
+        let z : getD l (at + 4) 0 * 0 ≡ 0 = omega arith in
+        rw z (step-done k (a ∷ b ∷ c ∷ []) (drop at l) 4)
+    rest k (suc zero) a b c m =
+        let z : getD l (at + 4) 0 * 1 ≡ getD l (at + 4) 0 = omega arith in
+        rw z
+        (step-more k (a ∷ b ∷ c ∷ []) (drop at l) 4 refl 0 (one 3 (omega arith))
+        (step-done k (a ∷ b ∷ c ∷ getD l (at + 4) 0 ∷ []) (drop at l) 5))
+    rest k (suc (suc f)) a b c m = absurd (omega arith)
+
+    pub short-first : readStep (drop at l) ≡ Read (shortStep l at) (shortLength l at)
+    unfolding shortStep shortLength shortFourth
+    short-first =
+        let k : ℕ = getD l at 0 in
+        sym
+        (three-numbers (drop at l) k short-kind (read-one l at (omega (arith, short-fits)) (omega (arith, short-kind-most))) (one 0 (omega arith))
+        (one 1 (omega arith)) (one 2 (omega arith)) (rest k (fourthNumbers k) _ _ _ (fourth-most k)))
+
+    pub short-read : readAt l at ≡ Read (shortStep l at) (at + shortLength l at)
+    short-read = step-at l at short-first

@@ -105,6 +105,20 @@ module _ (log : List ℕ) (h : 0 < length log) {x : Number} (p : x ≡ readNumbe
   unfolding afterKind
   first-no-kind q = rw (first-number log h, ← p, q)
 
+-- a step of a known kind whose kind and first two numbers have one byte each, and whose third has n
+module _
+    (log : List ℕ) (k : ℕ) (h : Known (kindOf k)) {a b c n : ℕ} (pk : readNumber log ≡ Value k 1) (pa : readNumber (drop 1 log) ≡ Value a 1)
+    (pb : readNumber (drop 2 log) ≡ Value b 1) (pc : readNumber (drop 3 log) ≡ Value c n)
+  where
+    pub three-numbers :
+        {r : Reading} → r ≡ stepAfter k (a ∷ b ∷ c ∷ []) (3 + n) (readNumbers (fourthNumbers k) (drop (3 + n) log)) → r ≡ readStep log
+    three-numbers e =
+        let f : ℕ = fourthNumbers k in
+        first-kind log (omega (arith, number-within log pk)) refl pk
+        (kind-taken log 1 k h
+        (step-more k [] log 1 refl (suc (suc f)) pa
+        (step-more k (a ∷ []) log 2 refl (suc f) pb (step-more k (a ∷ b ∷ []) log 3 refl f pc e))))
+
 -- ---- the step at a position
 
 module _ (log : List ℕ) (at : ℕ) where
@@ -123,3 +137,8 @@ module _ (log : List ℕ) (at : ℕ) where
     pub step-from : {y : Reading} → x ≡ y → from at y ≡ readAt log at
     unfolding readAt
     step-from q = rw (← p, q)
+
+  -- a step that was read there
+  pub step-at : {s : Step} {n : ℕ} → readStep (drop at log) ≡ Read s n → readAt log at ≡ Read s (at + n)
+  unfolding readAt from
+  step-at e = rw e

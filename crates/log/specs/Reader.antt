@@ -1,13 +1,10 @@
 -- Reading a step in parts: its kind, then one number after the other.
-use Prim.Native.Nat.{ℕ, _+_, _≤_}
-use mathlib.Core.Path.{_≡_}
-use mathlib.Core.Bool.{Bool, true, cond}
+use Prim.Native.Nat.{ℕ, _+_}
+use mathlib.Core.Bool.{cond}
 use mathlib.Core.List.{List, [], _++_}
-use lib.Dec.{ltb}
-use lib.ListN.{length, getD, drop}
+use lib.ListN.{drop}
 use Rattle.model.specs.declared.Reading.{Reading}
 use Rattle.model.specs.declared.Reading.the-variants.{Step as Read, Rejected}
-use Rattle.model.specs.Tests.{allBelow}
 use Rattle.model.specs.Kinds.{kindOf, isKept, isUnknown, usedNumbers}
 use Rattle.model.specs.Log.{stepOf}
 use Rattle.model.specs.Numbers.{Numbers, values, rejected, readNumbers}
@@ -22,11 +19,3 @@ unfoldable pub kindAt : List ℕ → ℕ → ℕ → Reading
 kindAt log at k =
     cond (isKept (kindOf k)) (Rejected 3)
     (cond (isUnknown (kindOf k)) (Rejected 4) (stepAfter k [] at (readNumbers (usedNumbers (kindOf k)) (drop at log))))
-
--- the first five bytes are numbers of one byte
-unfoldable pub isShort : List ℕ → Bool
-isShort log = allBelow 5 (λ i. ltb (getD log i 0) 128)
-
-pub record Short (log : List ℕ) : Type 0 where
-  pub bytes : 5 ≤ length log
-  pub short : isShort log ≡ true

@@ -44,10 +44,8 @@ pub fn first_step(log: &[u8]) -> Reading
     ensures { λ r. ⌜ readingNext r ≡ bytesRead (now (log .entry)) ⌝ }
     ensures { λ r. ⌜ r ≡ readStep (now (log .entry)) ⌝ }
 {
-    if 5 <= log.len() {
-        if is_short(log) {
-            return short_step(log);
-        }
+    if is_short(log, 0) {
+        return short_step(log);
     }
     any_step(log)
 }

@@ -1,50 +1,74 @@
-// Steps whose numbers have one byte each, as most have. They are read with no branch on the kind, which is hard to foretell.
+// Steps whose numbers have one byte each, as most have. They are told with one test of four bytes, and read with no branch on the kind, which is hard to
+// foretell.
 use model::Reading;
 use model::kind::Kind;
 use model::step::Step;
 ghost use mathlib.Core.Path.{_≡_};
-ghost use Prim.Native.Nat.{_≤_};
-ghost use lib.ListN.{length};
+ghost use mathlib.Core.Bool.{true};
 ghost use Rattle.model.specs.Log.{readStep};
-ghost use Rattle.log.specs.Reader.{isShort, Short};
+ghost use Rattle.log.specs.Short.{isShortAt, shortFourth, shortLength, shortStep};
 
-// Whether the first five bytes are numbers of one byte. The fifth may be the next step's kind.
-pub fn is_short(log: &[u8]) -> bool
-    requires { ⌜ 5 ≤ length (now log) ⌝ }
-    ensures { λ r. ⌜ r ≡ isShort (now (log .entry)) ⌝ }
+// The largest number of a kind.
+const LAST_KIND: u8 = 7;
+
+// Whether eight bytes are left at a position and begin with a step of a known kind whose numbers have one byte each. Of a step of three numbers, the
+// byte after it is tested too: it may be the next step's kind.
+pub fn is_short(log: &[u8], at: usize) -> bool
+    ensures { λ r. ⌜ r ≡ isShortAt (now (log .entry)) at ⌝ }
 {
-    if 128 <= log[0] {
+    if log.len() <= at {
         return false;
     }
-    if 128 <= log[1] {
+    if log.len() - at < 8 {
         return false;
     }
-    if 128 <= log[2] {
+    let kind = log[at];
+    if kind < 1 {
         return false;
     }
-    if 128 <= log[3] {
+    if LAST_KIND < kind {
         return false;
     }
-    log[4] < 128
+    (log[at + 1] | log[at + 2] | log[at + 3] | log[at + 4]) < 128
 }
 
-// The step at the start of such bytes.
+// Its fourth number, 0 where its kind uses three.
+pub fn fourth(log: &[u8], at: usize) -> u64
+    requires { ⌜ isShortAt (now log) at ≡ true ⌝ }
+    ensures { λ r. ⌜ r ≡ shortFourth (now (log .entry)) at ⌝ }
+{
+    log[at + 4] as u64 * Kind::fourths(log[at] as u64)
+}
+
+// How many bytes it has.
+pub fn length(log: &[u8], at: usize) -> usize
+    requires { ⌜ isShortAt (now log) at ≡ true ⌝ }
+    ensures { λ r. ⌜ r ≡ shortLength (now (log .entry)) at ⌝ }
+{
+    4 + Kind::fourths(log[at] as u64) as usize
+}
+
+// The step itself.
+pub fn step(log: &[u8], at: usize) -> Step
+    requires { ⌜ isShortAt (now log) at ≡ true ⌝ }
+    ensures { λ r. ⌜ r ≡ shortStep (now (log .entry)) at ⌝ }
+{
+    Step {
+        kind: log[at] as u64,
+        a: log[at + 1] as u64,
+        b: log[at + 2] as u64,
+        c: log[at + 3] as u64,
+        d: fourth(log, at),
+    }
+}
+
+// What is read where a log begins with a short step.
 pub fn short_step(log: &[u8]) -> Reading
-    requires { ⌜ Short (now log) ⌝ }
+    requires { ⌜ isShortAt (now log) 0 ≡ true ⌝ }
     ensures { λ r. ⌜ r ≡ readStep (now (log .entry)) ⌝ }
 {
-    let kind = log[0] as u64;
-    let rules = Kind::of(kind).rules();
-    if rules.rejection != 0 {
-        return Reading::Rejected(rules.rejection);
-    }
-    let more = Kind::fourths(kind);
-    let a = log[1] as u64;
-    let b = log[2] as u64;
-    let c = log[3] as u64;
-    let d = log[4] as u64 * more;
     Reading::Step {
-        step: Step { kind, a, b, c, d },
-        next: 4 + more as usize,
+        step: step(log, 0),
+        next: length(log, 0),
     }
 }

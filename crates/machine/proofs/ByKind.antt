@@ -33,7 +33,7 @@ some-number true true e = omega arith
 some-number true false e = omega arith
 some-number false b e = omega arith
 
-pub index-told : (Z : ℕ) (s : Step) → argumentRejection Z s ≡ 0 → isIndexOf Z (shardOf s) (s .b) ≡ true
+index-told : (Z : ℕ) (s : Step) → argumentRejection Z s ≡ 0 → isIndexOf Z (shardOf s) (s .b) ≡ true
 unfolding argumentRejection firstOf inRange isIndexOf shardOf
 index-told Z s e = go (ltb (s .a) Z && leb 1 (s .b) && leb (s .b) 8) refl
   where
@@ -42,9 +42,9 @@ index-told Z s e = go (ltb (s .a) Z && leb 1 (s .b) && leb (s .b) 8) refl
     go false q = absurd (some-number (not (isKept (kindOf (s .kind)))) (not (isUnknown (kindOf (s .kind)))) (rw q at e))
 
 -- .. and where the test t of them failed, r is a rejection
-pub no-index : (Z : ℕ) (s : Step) {z : ℕ} → z ≡ shardOf s → {t : Bool} → t ≡ isIndexOf Z z (s .b) → not t ≡ true
-    → {r : ℕ} → r ≡ argumentRejection Z s → r ≡ 0 → ⊥
-no-index Z s a {t} i m q e = true≢false (sym (index-told Z s (sym q ∙ e)) ∙ rw a at (sym i ∙ not-true t m))
+pub no-index : (Z : ℕ) (s : Step) {t : Bool} → t ≡ isIndexOf Z (s .a) (s .b) → not t ≡ true → {r : ℕ} → r ≡ argumentRejection Z s → r ≡ 0 → ⊥
+unfolding shardOf
+no-index Z s {t} i m q e = true≢false (sym (index-told Z s (sym q ∙ e)) ∙ (sym i ∙ not-true t m))
 
 module _ {w : List ℕ} {n : ℕ} {s : Step} (r : ReadyStep w n s) where
   tests : (ltb (s .a) n ≡ true) × (leb 1 (s .b) ≡ true) × (leb (s .b) 8 ≡ true)

@@ -2,11 +2,16 @@
 use model::kind::Kind;
 use model::step::Step;
 ghost use mathlib.Core.Path.{_≡_};
+ghost use mathlib.Core.List.{[], _∷_};
+ghost use lib.ListN.{length};
+ghost use Rattle.model.specs.Layout.{shardsOf};
+ghost use Rattle.model.specs.Log.{stepOf};
 ghost use Rattle.model.specs.Steps.{rejection, after};
 ghost use Rattle.lookup.specs.Ready.{Formed};
 ghost use Rattle.machine.specs.Inside.{ReadyStep};
 
-// A step: 0 and its effect, or the rejection and the state as it was.
+// A step: 0 and its effect, or the rejection and the state as it was. Kind, shard and index are tested before the state is scanned, the other numbers
+// after it: on a well-formed state by the step's kind, which tests them anyway.
 pub fn step(state: &mut [u64], s: Step) -> u64
     ensures { λ r. ⌜ r ≡ rejection (now (state .entry)) s ⌝ }
     ensures { λ _. ⌜ now (state .exit) ≡ after (now (state .entry)) s ⌝ }
@@ -15,27 +20,41 @@ pub fn step(state: &mut [u64], s: Step) -> u64
     if shards == 0 {
         return 1;
     }
-    let early = arguments::rejection(shards, s);
-    if early != 0 {
-        return early;
+    let bad = Kind::of(s.kind).rules().rejection;
+    if bad != 0 {
+        return bad;
+    }
+    if !arguments::is_index_of(shards, s.a, s.b) {
+        return 7;
     }
     if !wellformed::well_formed(state) {
+        let early = arguments::numbers_rejection(shards, s.kind, s.a, s.b, s.c, s.d);
+        if early != 0 {
+            return early;
+        }
         return 9;
     }
-    act(state, shards, s)
+    step_numbers(state, shards, s.kind, s.a, s.b, s.c, s.d)
 }
 
-// A step on a state that is known to be well-formed, which is not scanned again.
-pub fn step_inside(state: &mut [u64], s: Step) -> u64
-    requires { ⌜ Formed (now state) ⌝ }
-    ensures { λ r. ⌜ r ≡ rejection (now (state .entry)) s ⌝ }
-    ensures { λ _. ⌜ now (state .exit) ≡ after (now (state .entry)) s ⌝ }
+// A step by its numbers, on a state that is known to be well-formed and is not scanned again. A `Step` would go through memory.
+pub fn step_numbers(
+    state: &mut [u64],
+    shards: usize,
+    kind: u64,
+    a: u64,
+    b: u64,
+    c: u64,
+    d: u64,
+) -> u64
+    requires { ⌜ Formed (now state) × (shards ≡ shardsOf (length (now state))) ⌝ }
+    ensures { λ r. ⌜ r ≡ rejection (now (state .entry)) (stepOf kind (a ∷ b ∷ c ∷ d ∷ [])) ⌝ }
+    ensures { λ _. ⌜ now (state .exit) ≡ after (now (state .entry)) (stepOf kind (a ∷ b ∷ c ∷ d ∷ [])) ⌝ }
 {
-    let shards = wellformed::shard_count(state.len());
-    if !arguments::is_index_of(shards, s.shard(), s.b) {
-        return arguments::rejection(shards, s);
+    if !arguments::is_index_of(shards, a, b) {
+        return arguments::numbers_rejection(shards, kind, a, b, c, d);
     }
-    act(state, shards, s)
+    act(state, shards, Step { kind, a, b, c, d })
 }
 
 // The same, the shard and the index being in range. This is the one look at the kind: each kind tests its own numbers, decides and acts.

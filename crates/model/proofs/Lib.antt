@@ -17,6 +17,7 @@ pub mod Entries
 pub mod Origins
 pub mod WellFormedParts
 pub mod Ranges
+pub mod Joined
 pub mod WellFormed
 pub mod WellFormedMembers
 pub mod ProperReplicas

@@ -1,11 +1,13 @@
 -- Laws of tests that are equal, and of loops that test a range or a list place by place.
-use Prim.Native.Nat.{ℕ, suc, _+_, _≤_, _<_}
+use Prim.Native.Nat.{ℕ, suc, _+_, _-_, _≤_, _<_}
 use native.Mathlib.Numerals.{add-one}
 use native.Mathlib.Omega.{arith}
 use mathlib.Core.Path.{_≡_, refl, sym, subst, _∙_}
 use mathlib.Core.Bool.{Bool, true, false, _&&_, false≢true}
 use mathlib.Core.List.{List, [], _∷_}
+use lib.Dec.{ltb}
 use lib.ListN.{length, getD}
+use borrow.Author.Tests.{ltb-true, ltb-false}
 use Rattle.model.specs.Tests.{allBelow, allOf}
 use Rattle.model.proofs.Tests.{both, all-below, below-all}
 use Rattle.model.proofs.WellFormedParts.{all-at}
@@ -42,6 +44,24 @@ pub alike : (n : ℕ) (f g : ℕ → Bool) → ((i : ℕ) → i < n → f i ≡ 
 alike n f g h =
     same-test (allBelow n f) (allBelow n g) (λ e. below-all n g (λ i l. sym (h i l) ∙ all-below n f e i l))
     (λ e. below-all n f (λ i l. h i l ∙ all-below n g e i l))
+
+-- a range in two parts
+pub parted : (a b : ℕ) (f : ℕ → Bool) → allBelow (a + b) f ≡ (allBelow a f && allBelow b (λ i. f (a + i)))
+parted a b f =
+    same-test (allBelow (a + b) f) (allBelow a f && allBelow b (λ i. f (a + i)))
+    (λ e. both (allBelow a f) (allBelow b (λ i. f (a + i))) .1 (
+      below-all a f (λ i h. all-below (a + b) f e i (omega arith)),
+      below-all b (λ i. f (a + i)) (λ i h. all-below (a + b) f e (a + i) (omega arith)),
+    ))
+    (λ e.
+    let t = both (allBelow a f) (allBelow b (λ i. f (a + i))) .0 e in
+    below-all (a + b) f (λ i h. place i h (t .0) (t .1) (ltb i a) refl))
+  where
+    place : (i : ℕ) → i < a + b → allBelow a f ≡ true → allBelow b (λ k. f (a + k)) ≡ true → (c : Bool) → ltb i a ≡ c → f i ≡ true
+    place i h p q true e = all-below a f p i (ltb-true i a e)
+    place i h p q false e =
+        let l = ltb-false i a e in
+        subst (λ (k : ℕ). f k ≡ true) (omega arith) (all-below b (λ k. f (a + k)) q (i - a) (omega arith))
 
 -- ---- a list
 

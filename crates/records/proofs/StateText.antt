@@ -1,12 +1,13 @@
 -- The text of a well-formed state: a shard's part is that of the replica which the pick finds, and the whole is the header and the shards' parts.
 -- Assumes nothing.
-use Prim.Native.Nat.{ℕ, _-_, _≤_, _<_}
+use Prim.Native.Nat.{ℕ, _+_, _-_, _*_, _≤_, _<_}
 use native.Mathlib.Omega.{arith}
 use mathlib.Core.Path.{_≡_, ap, _∙_}
 use mathlib.Core.List.{List, _++_}
 use lib.ListN.{length, length-append}
 use borrow.Author.Tests.{le-leb}
 use Rattle.model.specs.Layout.{shardsOf, isStateLength}
+use Rattle.model.proofs.Lengths.{shards-most}
 use Rattle.histories.specs.Entries.{entriesAt}
 use Rattle.histories.specs.History.{longestPlace, OfShard}
 use Rattle.histories.proofs.Longest.{picked-entries}
@@ -15,7 +16,7 @@ use Rattle.records.specs.Format.{rowText}
 use Rattle.records.specs.Rows.{rows}
 use Rattle.records.specs.Csv.{header, csv}
 use Rattle.records.specs.Room.{historyText, shardText, FormedOf}
-use Rattle.records.specs.Largest.{headerBytes, csvMost}
+use Rattle.records.specs.Largest.{headerBytes, shardMost, csvMost, LargestCsv}
 use Rattle.records.proofs.TextParts.{shardsLeft}
 use Rattle.records.proofs.LargestCsv.{csv-largest}
 
@@ -36,9 +37,18 @@ module _ {w : List ℕ} {n : ℕ} (f : FormedOf w n) where
   unfolding csv rows
   csv-parts = let all : n - 0 ≡ shardsOf (length w) = omega (arith, f .shards) in rw all
 
-  pub csv-most : length (csv w) ≤ csvMost
+  largest : LargestCsv w
   unfolding isStateLength
-  csv-most = csv-largest w (le-leb 2 (shardsOf (length w)) (f .formed .several)) (f .formed .formed) .all
+  largest = csv-largest w (le-leb 2 (shardsOf (length w)) (f .formed .several)) (f .formed .formed)
+
+  pub csv-most : length (csv w) ≤ csvMost
+  csv-most = largest .all
+
+  pub csv-by-shards : length (csv w) ≤ headerBytes + shardMost * n
+  csv-by-shards = rw (f .shards) (largest .by-shards)
+
+  pub few-shards : n ≤ 8
+  few-shards = omega (arith, f .shards, shards-most (length w))
 
   -- the header is measured
   pub measure-start : Measured n (shardsLeft w n) (length (csv w)) headerBytes 0

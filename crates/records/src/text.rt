@@ -9,7 +9,10 @@ ghost use Rattle.records.specs.Csv.{csv};
 ghost use Rattle.records.specs.Room.{FormedOf, TextRoom};
 
 // How long the header row is.
-const HEADER_BYTES: usize = 23;
+pub const HEADER_BYTES: usize = 23;
+
+// How long the rows of a shard are at most.
+pub const SHARD_MOST: usize = 1278;
 
 // How long the text of a well-formed state is.
 pub fn text_length(state: &[u64], shards: usize) -> usize
@@ -25,9 +28,10 @@ pub fn text_length(state: &[u64], shards: usize) -> usize
     sum
 }
 
-// Writes the text of a well-formed state to the start of an output that has room for it.
-pub fn write_text(out: &mut [u8], state: &[u64], shards: usize)
+// Writes the text of a well-formed state to the start of an output that has room for it, and returns its length.
+pub fn write_text(out: &mut [u8], state: &[u64], shards: usize) -> usize
     requires { ⌜ TextRoom (now out) (now state) shards ⌝ }
+    ensures { λ r. ⌜ r ≡ length (csv (now (state .entry))) ⌝ }
     ensures { λ _. ⌜ now (out .exit) ≡ sets (now (out .entry)) 0 (csv (now (state .entry))) ⌝ }
 {
     let mut end = write_bytes(out, 0, b"zone,place,kind,entry\r\n");
@@ -36,4 +40,5 @@ pub fn write_text(out: &mut [u8], state: &[u64], shards: usize)
         end = write_shard(out, end, state, shard as u64);
         shard += 1;
     }
+    end
 }

@@ -2,13 +2,15 @@
 -- Assumes nothing.
 use Prim.Native.Nat.{ℕ, _+_, _<_}
 use native.Mathlib.Nat.{add-zero}
-use mathlib.Core.Path.{_≡_, refl, sym, subst, _∙_}
+use mathlib.Core.Path.{_≡_, refl, sym, ap, ap₂, subst, _∙_}
 use mathlib.Core.Bool.{cond}
 use mathlib.Core.List.{List}
 use lib.Dec.{eqb}
+use lib.ListN.{length}
 use borrow.Author.Tests.{eq-eqb, ne-eqb}
 use Rattle.model.specs.declared.step.Step.{Step}
 use Rattle.model.specs.declared.Reading.the-variants.{Step as Read}
+use Rattle.model.specs.Layout.{shardsOf}
 use Rattle.model.specs.Steps.{rejection, after}
 use Rattle.model.specs.Log.{readAt}
 use Rattle.model.proofs.WellFormedSteps.{kept, step-length}
@@ -26,6 +28,15 @@ formed-after {w} f s =
       long = rw (step-length w s) (f .long);
     }
 
+-- a step and its bytes, as the code has them
+pub read-as : (log : List ℕ) (at : ℕ) {s t : Step} {m n : ℕ} → readAt log at ≡ Read t (at + n) → s ≡ t → m ≡ n → readAt log at ≡ Read s (at + m)
+read-as log at e p q = e ∙ ap₂ (λ (x : Step) (k : ℕ). Read x (at + k)) (sym p) (sym q)
+
+-- the number of shards stays
+pub counted-still : {w₀ log : List ℕ} {budget : ℕ} {w : List ℕ} {at tried rejected n : ℕ} → Running w₀ log budget w at tried rejected
+    → n ≡ shardsOf (length w₀) → n ≡ shardsOf (length w)
+counted-still x e = e ∙ ap shardsOf (sym (x .long))
+
 pub start : (w log : List ℕ) (budget : ℕ) → Formed w → Running w log budget w 0 0 0
 start w log budget f = record { rest = rest-start w log budget; formed = f; long = refl }
 
@@ -38,6 +49,11 @@ module _ {w₀ log : List ℕ} {budget : ℕ} {w : List ℕ} {at tried rejected 
         formed = formed-after (x .formed) s;
         long = step-length w s ∙ x .long;
       }
+
+  -- it is counted as it answers
+  pub turned : (a : ℕ) {w′ : List ℕ} {k : ℕ} → a ≡ rejection w s → w′ ≡ after w s → k ≡ rejected + cond (eqb a 0) 0 1
+      → Running w₀ log budget w′ next (tried + 1) k
+  turned a p q c = rw (q, c, p) stepped
 
   -- a rejected step counts, an accepted one does not
   pub turn-rejected : (a : ℕ) {w′ : List ℕ} {k : ℕ} → a ≡ rejection w s → w′ ≡ after w s → (a ≡ 0 → ⊥) → k ≡ rejected + 1

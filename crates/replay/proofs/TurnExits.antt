@@ -20,7 +20,7 @@ use Rattle.replay.specs.declared.tally.Tally.{Tally}
 use Rattle.replay.specs.declared.turns.Progress.{Progress}
 use Rattle.replay.specs.Run.{reported}
 use Rattle.replay.specs.Tally.{countOf}
-use Rattle.replay.specs.Turns.{Underway, Turned, ended, goesOn, turnRead, stateRead, turnOf, turnState}
+use Rattle.replay.specs.Turns.{Underway, Turned, ended, goesOn, turnRead, stateRead, turnOf, turnState, turnTried}
 use Rattle.replay.proofs.Rest.{reads-end, reads-damage, reads-all, reads-part}
 use Rattle.replay.proofs.Turning.{stops-here, accepts-one, rejects-one}
 
@@ -57,18 +57,29 @@ module _ (w log : List ℕ) (budget : ℕ) (r : Report) where
       unfolding turnState stateRead
       left-is = q ∙ rw (lt-leb budget (r .tried) h, e)
 
-      pub exit-accepted : a ≡ 0
+      exit-accepted : a ≡ 0
           → Turns w log budget r v (goesOn (reported Spent (r .tried + 1) (r .rejected) next) 17)
       unfolding turnOf turnRead
       exit-accepted z = (rw (lt-leb budget (r .tried) h, e, sym p, eq-eqb a 0 z), left-is)
 
-      pub exit-rejected : (a ≡ 0 → ⊥) → {k : ℕ} → k ≡ countOf v s
+      exit-rejected : (a ≡ 0 → ⊥) → {k : ℕ} → k ≡ countOf v s
           → Turns w log budget r v (goesOn (reported Spent (r .tried + 1) (r .rejected + 1) next) k)
       unfolding turnOf turnRead
       exit-rejected n {k} c =
           let is : v ≡ w = q ∙ after-rejected w s (λ z. n (p ∙ z)) in
           let here : k ≡ countOf w s = c ∙ ap (λ (x : List ℕ). countOf x s) is in
           (rw (here, lt-leb budget (r .tried) h, e, sym p, ne-eqb a 0 n), left-is)
+
+      -- either, as the code goes on from the answer
+      pub exit-tried : {p : Progress} → p ≡ turnTried v s a (r .tried) (r .rejected) next → Turns w log budget r v p
+      unfolding turnTried
+      exit-tried e = rw e (go (eqb a 0) refl)
+        where
+          go : (b : Bool) → eqb a 0 ≡ b
+              → Turns w log budget r v (cond b (goesOn (reported Spent (r .tried + 1) (r .rejected) next) 17)
+              (goesOn (reported Spent (r .tried + 1) (r .rejected + 1) next) (countOf v s)))
+          go true z = exit-accepted (eqb-true a 0 z)
+          go false z = exit-rejected (eqb-false a 0 z) refl
 
 -- ---- .. and what it does to a replay under way
 module _ {w₀ log : List ℕ} {budget : ℕ} {w : List ℕ} {r : Report} {t : Tally} (t₀ : Tally) (u : Underway w₀ log budget w r t) (small : budget < 2 ^ 64) where

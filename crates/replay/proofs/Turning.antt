@@ -26,7 +26,7 @@ use Rattle.replay.specs.declared.turns.Progress.{Progress}
 use Rattle.replay.specs.Run.{reported, runReport, afterRun}
 use Rattle.replay.specs.Tally.{noHost, countOf, tallyAfter}
 use Rattle.replay.specs.Counts.{nothingCounted, countedIn, tallyFrom}
-use Rattle.replay.specs.Turns.{Underway, Tallying, Turned, begun, Rejected, ended, goesOn}
+use Rattle.replay.specs.Turns.{Underway, Tallying, Turned, begun, Rejected, Tried, ended, goesOn}
 use Rattle.replay.proofs.Rest.{read-step, reads-step, stops}
 use Rattle.replay.proofs.Running.{start, turn-rejected, turn-accepted}
 use Rattle.replay.proofs.Tallies.{counted-at, counted-long, count-most, nothing-at, nothing-long, tally-from-nothing}
@@ -189,11 +189,19 @@ module _ {w₀ log : List ℕ} {budget : ℕ} {w : List ℕ} {r : Report} {t : T
         }
 
     -- .. and has a host to be looked for
-    pub has-host : (a ≡ 0 → ⊥) → Rejected v s a
+    has-host : (a ≡ 0 → ⊥) → Rejected v s a
     has-host n =
         let is : v ≡ w = q ∙ after-rejected w s (λ z. n (p ∙ z)) in
         record {
           formed = rw is (u .running .formed);
           known = known-step log (r .bytes) s next e;
           is = p ∙ rw is;
+        }
+
+    pub was-tried : budget < 2 ^ 64 → Tried v s a (r .tried) (r .rejected)
+    was-tried small =
+        record {
+          one-tried = omega (arith, h, small);
+          one-rejected = omega (arith, h, small, u .running .rest .fewer);
+          turned-back = has-host;
         }

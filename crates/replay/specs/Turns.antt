@@ -1,6 +1,6 @@
 -- A replay at one of its turns, as the functions inside need it: what is still to come, together with what was counted, is what the whole replay
 -- reports, leaves and tallies.
-use Prim.Native.Nat.{ℕ, _+_, _-_, _≤_, _<_}
+use Prim.Native.Nat.{ℕ, _+_, _-_, _^_, _≤_, _<_}
 use mathlib.Core.Path.{_≡_}
 use mathlib.Core.Bool.{true, false, cond}
 use mathlib.Core.List.{List}
@@ -96,3 +96,14 @@ pub record Rejected (w : List ℕ) (s : Step) (answer : ℕ) : Type 0 where
   pub formed : Formed w
   pub known : Known (kindOf (s .kind))
   pub is : answer ≡ rejection w s
+
+-- a step that was tried, with its answer and the counts before it
+pub record Tried (w : List ℕ) (s : Step) (answer tried rejected : ℕ) : Type 0 where
+  pub one-tried : tried + 1 < 2 ^ 64
+  pub one-rejected : rejected + 1 < 2 ^ 64
+  pub turned-back : (answer ≡ 0 → ⊥) → Rejected w s answer
+
+-- .. and how the replay then is, at the next position
+unfoldable pub turnTried : List ℕ → Step → ℕ → ℕ → ℕ → ℕ → Progress
+turnTried w s answer tried rejected next =
+    cond (eqb answer 0) (goesOn (reported Spent (tried + 1) rejected next) noCount) (goesOn (reported Spent (tried + 1) (rejected + 1) next) (countOf w s))

@@ -3,10 +3,16 @@ pub mod tallied;
 pub mod tally;
 mod turns;
 
+use log::long::is_long_add;
+use log::short::is_short;
+use machine::step_numbers;
 use model::Reading;
 use model::Report;
 use model::Stop;
 ghost use mathlib.Core.Path.{_≡_};
+ghost use mathlib.Core.Bool.{cond};
+ghost use Prim.Native.Nat.{_+_, _-_, _^_, _<_};
+ghost use lib.Dec.{eqb};
 ghost use lib.ListN.{length};
 ghost use Rattle.model.specs.Replay.{rejectedIn, replayed, report, afterReplay};
 ghost use Rattle.model.specs.Results.{stopNumber, stopCode, replayNumber, replayCode, replayBytes};
@@ -35,21 +41,37 @@ pub fn replay(state: &mut [u64], log: &[u8], budget: u64) -> Report
     run(state, log, budget)
 }
 
-// The same on a state that is known to be well-formed.
+// The same on a state that is known to be well-formed. Most steps are short or adds, and are tried without the general reader.
 fn run(state: &mut [u64], log: &[u8], budget: u64) -> Report
     requires { ⌜ Formed (now state) ⌝ }
     ensures { λ r. ⌜ r ≡ runReport (now (state .entry)) (now (log .entry)) budget ⌝ }
     ensures { λ _. ⌜ now (state .exit) ≡ afterRun (now (state .entry)) (now (log .entry)) budget ⌝ }
 {
+    let shards = wellformed::shard_count(state.len());
     let mut at: usize = 0;
     let mut tried: u64 = 0;
     let mut rejected: u64 = 0;
     while tried < budget {
+        if is_short(log, at) {
+            let s = log::short::step(log, at);
+            let answer = step_numbers(state, shards, s.kind, s.a, s.b, s.c, s.d);
+            rejected = counted_more(rejected, answer);
+            tried += 1;
+            at += log::short::length(log, at);
+            continue;
+        }
+        if is_long_add(log, at) {
+            let s = log::long::step(log, at);
+            let answer = step_numbers(state, shards, s.kind, s.a, s.b, s.c, s.d);
+            rejected = counted_more(rejected, answer);
+            tried += 1;
+            at += log::long::length(log, at);
+            continue;
+        }
         match log::reader::read_step(log, at) {
             Reading::Step { step, next } => {
-                if machine::step_inside(state, step) != 0 {
-                    rejected += 1;
-                }
+                let answer = step_numbers(state, shards, step.kind, step.a, step.b, step.c, step.d);
+                rejected = counted_more(rejected, answer);
                 tried += 1;
                 at = next;
             }
@@ -65,6 +87,14 @@ fn run(state: &mut [u64], log: &[u8], budget: u64) -> Report
         return stopped(Stop::Ended, tried, rejected, at);
     }
     stopped(Stop::Spent, tried, rejected, at)
+}
+
+// A count of rejected steps after one that answered: one more where it was rejected, told without a branch.
+fn counted_more(rejected: u64, answer: u64) -> u64
+    requires { ⌜ rejected < 2 ^ 64 - 1 ⌝ }
+    ensures { λ r. ⌜ r ≡ rejected + cond (eqb answer 0) 0 1 ⌝ }
+{
+    rejected + ((answer != 0) as u64)
 }
 
 // A report.

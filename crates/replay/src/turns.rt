@@ -1,13 +1,16 @@
 // The turns of a replay that keeps a tally: one step is read and tried, and its rejection has a host, or none.
 use crate::stopped;
 use crate::tally::NO_HOST;
+use log::long::is_long_add;
+use log::short::is_short;
+use machine::step_numbers;
 use model::Reading;
 use model::Report;
 use model::Stop;
 use model::step::Step;
 ghost use mathlib.Core.Path.{_≡_};
 ghost use Rattle.replay.specs.Tally.{namedHost, countOf};
-ghost use Rattle.replay.specs.Turns.{begun, Turning, turnOf, turnState, Rejected, ended, goesOn};
+ghost use Rattle.replay.specs.Turns.{begun, Turning, turnOf, turnState, Tried, turnTried, Rejected, ended, goesOn};
 
 // No count is to be one more.
 const NO_COUNT: u64 = 17;
@@ -46,18 +49,46 @@ pub fn turn(state: &mut [u64], log: &[u8], budget: u64, before: Report) -> Progr
         }
         return over(stopped(Stop::Spent, tried, rejected, at));
     }
+    let shards = wellformed::shard_count(state.len());
+    if is_short(log, at) {
+        let s = log::short::step(log, at);
+        let answer = step_numbers(state, shards, s.kind, s.a, s.b, s.c, s.d);
+        let next = at + log::short::length(log, at);
+        return tried_one(state, s, answer, tried, rejected, next);
+    }
+    if is_long_add(log, at) {
+        let s = log::long::step(log, at);
+        let answer = step_numbers(state, shards, s.kind, s.a, s.b, s.c, s.d);
+        let next = at + log::long::length(log, at);
+        return tried_one(state, s, answer, tried, rejected, next);
+    }
     match log::reader::read_step(log, at) {
         Reading::Step { step, next } => {
-            let answer = machine::step_inside(state, step);
-            if answer == 0 {
-                return on(stopped(Stop::Spent, tried + 1, rejected, next), NO_COUNT);
-            }
-            let count = count_of(state, step, answer);
-            on(stopped(Stop::Spent, tried + 1, rejected + 1, next), count)
+            let answer = step_numbers(state, shards, step.kind, step.a, step.b, step.c, step.d);
+            tried_one(state, step, answer, tried, rejected, next)
         }
         Reading::End => over(stopped(Stop::Ended, tried, rejected, at)),
         Reading::Rejected(r) => over(stopped(Stop::Damaged(r), tried, rejected, at)),
     }
+}
+
+// After a step that was tried: the replay goes on, and a rejection counts for its host, or for none.
+fn tried_one(
+    state: &[u64],
+    s: Step,
+    answer: u64,
+    tried: u64,
+    rejected: u64,
+    next: usize,
+) -> Progress
+    requires { ⌜ Tried (now state) s answer tried rejected ⌝ }
+    ensures { λ r. ⌜ r ≡ turnTried (now (state .entry)) s answer tried rejected next ⌝ }
+{
+    if answer == 0 {
+        return on(stopped(Stop::Spent, tried + 1, rejected, next), NO_COUNT);
+    }
+    let count = count_of(state, s, answer);
+    on(stopped(Stop::Spent, tried + 1, rejected + 1, next), count)
 }
 
 // The count that a rejection goes to: that of the acting host, or of none.

@@ -6,6 +6,8 @@ pub mod AddSteps
 -- Wedge
 pub mod WedgeSteps
 -- Learn
+pub mod Turns
+pub mod SeatCounts
 pub mod LearnCompared
 pub mod LearnAlike
 pub mod LearnSteps

@@ -1,4 +1,5 @@
 // Kind 3, learn persistence: a longer prefix of a replica's history is stable.
+use crate::alike::turn_alike;
 use arguments::are_numbers;
 use model::kind::Kind;
 use model::layout::ACTIVE;
@@ -7,10 +8,26 @@ use model::layout::LENGTH;
 use model::layout::REPLICA_WORDS;
 use model::layout::STABLE;
 ghost use mathlib.Core.Path.{_≡_};
+ghost use Prim.Native.Nat.{_+_, _≤_};
+ghost use lib.ListN.{length};
+ghost use Rattle.model.specs.Layout.{configurationWords};
 ghost use Rattle.lookup.specs.Kinds.{ReadyKind, kindAnswer, kindAfter};
 ghost use Rattle.replica_steps.specs.AlikeWords.{Compared, allAlikeAt};
+ghost use Rattle.replica_steps.specs.Seats.{seatsAt};
 
-// Whether the `size` replicas from `first` on have n entries at least, and the first n like those of the replica at `own`.
+// How many of the four replicas from p on have a mode: those of a configuration's members.
+fn seats(state: &[u64], p: usize) -> usize
+    requires { ⌜ p + configurationWords ≤ length (now state) ⌝ }
+    ensures { λ r. ⌜ r ≡ seatsAt (now (state .entry)) p ⌝ }
+{
+    ((state[p] != 0) as usize)
+        + ((state[p + REPLICA_WORDS] != 0) as usize)
+        + ((state[p + 2 * REPLICA_WORDS] != 0) as usize)
+        + ((state[p + 3 * REPLICA_WORDS] != 0) as usize)
+}
+
+// Whether the `size` replicas from `first` on have n entries at least, and the first n like those of the replica at `own`. Entries are compared eight a
+// turn; those of the replica itself are not looked at.
 fn all_alike(state: &[u64], first: usize, size: usize, n: usize, own: usize) -> bool
     requires { ⌜ Compared (now state) first size n own ⌝ }
     ensures { λ r. ⌜ r ≡ allAlikeAt (now (state .entry)) first size n own ⌝ }
@@ -22,11 +39,18 @@ fn all_alike(state: &[u64], first: usize, size: usize, n: usize, own: usize) -> 
             break 'replicas;
         }
         let mut p = 0;
+        if q == own {
+            p = n;
+        }
         while p < n {
-            if state[q + ENTRIES + p] != state[own + ENTRIES + p] {
+            if !turn_alike(
+                &state[q + ENTRIES..q + ENTRIES + n],
+                &state[own + ENTRIES..own + ENTRIES + n],
+                p,
+            ) {
                 break 'replicas;
             }
-            p += 1;
+            p += 8;
         }
         k += 1;
     }
@@ -54,7 +78,7 @@ pub fn learn(state: &mut [u64], shards: usize, z: usize, j: usize, host: u64, n:
         return 18;
     }
     let c = lookup::configuration_of(state, z, j);
-    if !all_alike(state, c.place, c.size() as usize, n as usize, p) {
+    if !all_alike(state, c.place, seats(state, c.place), n as usize, p) {
         return 19;
     }
     state[p + STABLE] = n;

@@ -2,6 +2,7 @@
 // known to be well-formed, and the step's numbers are in range.
 
 pub mod add;
+mod alike;
 mod entries;
 pub mod learn;
 pub mod wedge;

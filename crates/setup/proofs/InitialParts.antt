@@ -54,19 +54,20 @@ pub record Started (q m o k : ℕ) (v : List ℕ) : Type 0 where
   pub long : length v ≡ 2112
   pub words : v ≡ initialHead q m o ++ concatBelow 32 (activeWords k)
 
+pub zeros-length : (v : List ℕ) (n : ℕ) → v ≡ replicate n 0 → length v ≡ n
+zeros-length v n e = ap length e ∙ length-replicate n 0
+
 head-stores : (q m o : ℕ) (l : List ℕ) → set (set (set (set (replicate 64 0 ++ l) 0 q) 1 1) 2 m) 10 o ≡ initialHead q m o ++ l
 unfolding initialHead
 head-stores q m o l = refl
 
-pub head-started : (q m o : ℕ) (w v : List ℕ) → length w ≡ 2112 → v ≡ replicate (length w) 0
-    → Started q m o 0 (set (set (set (set v 0 q) 1 1) 2 m) 10 o)
-head-started q m o w v h e =
+pub head-started : (q m o : ℕ) (v : List ℕ) → v ≡ replicate 2112 0 → Started q m o 0 (set (set (set (set v 0 q) 1 1) 2 m) 10 o)
+head-started q m o v e =
     record {
       most = omega arith;
-      long = simp length-set (ap length e ∙ length-replicate (length w) 0 ∙ h);
+      long = simp length-set (zeros-length v 2112 e);
       words =
-          ap (λ (l : List ℕ). set (set (set (set l 0 q) 1 1) 2 m) 10 o)
-          (e ∙ ap (λ (n : ℕ). replicate n 0) h ∙ sym (replicate-append-replicate 64 2048 0))
+          ap (λ (l : List ℕ). set (set (set (set l 0 q) 1 1) 2 m) 10 o) (e ∙ sym (replicate-append-replicate 64 2048 0))
           ∙ head-stores q m o (replicate 2048 0)
           ∙ ap (λ (l : List ℕ). initialHead q m o ++ l) (sym (concat-zeros 32 (activeWords 0) none-active));
     }

@@ -1,12 +1,12 @@
 -- The state that setup writes, shard after shard.
 -- Assumes nothing.
-use Prim.Native.Nat.{ℕ, _+_, _-_, _*_, _≤_, _<_}
+use Prim.Native.Nat.{ℕ, zero, _+_, _-_, _*_, _≤_, _<_}
 use native.Mathlib.Numerals.{add-one}
 use native.Mathlib.Omega.{arith}
 use mathlib.Core.Path.{_≡_, refl, sym, ap, ap₂, _∙_}
 use mathlib.Core.List.{List, _++_, append-assoc, append-nil}
-use lib.ListN.{length, take, drop, drop-of-length-le}
-use lib.Seq.{take-at, drop-append-add, drop-drop}
+use lib.ListN.{length, take, drop, replicate, drop-of-length-le, length-replicate, replicate-append-replicate}
+use lib.Seq.{take-at, drop-at, drop-append-add, drop-drop}
 use borrow.Rule.Slice.PartMut.{putMid, post-is}
 use Rattle.model.specs.Tests.{concatBelow}
 use Rattle.model.specs.Setup.{planSequencer, planMembers, planOrderer, initialShard, initialState}
@@ -25,6 +25,13 @@ pub record Written (Z : ℕ) (plan w : List ℕ) (z : ℕ) (v : List ℕ) : Type
   pub most : z ≤ Z
   pub long : length v ≡ Z * 2112
   pub words : v ≡ initialState z plan ++ drop (z * 2112) w
+
+-- a part of zeros is so many zeros
+zeros-part : (a n b : ℕ) → take n (drop a (replicate (a + (n + b)) zero)) ≡ replicate n zero
+zeros-part a n b =
+    ap (λ (l : List ℕ). take n (drop a l)) (sym (replicate-append-replicate a (n + b) zero))
+    ∙ ap (take n) (drop-at (replicate a zero) (replicate (n + b) zero) a (length-replicate a zero))
+    ∙ ap (take n) (sym (replicate-append-replicate n b zero)) ∙ take-at (replicate n zero) (replicate b zero) n (length-replicate n zero)
 
 module _ (Z : ℕ) (plan w : List ℕ) (h : length w ≡ Z * 2112) where
   pub none-written : Written Z plan w 0 w
@@ -71,3 +78,14 @@ module _ (Z : ℕ) (plan w : List ℕ) (h : length w ≡ Z * 2112) where
       let e : z ≡ Z = omega (arith, s .most) in
       s .words ∙ ap (λ (l : List ℕ). initialState z plan ++ l) (drop-of-length-le w {i = z * 2112} (omega arith))
       ∙ append-nil (initialState z plan) ∙ ap (λ (n : ℕ). initialState n plan) e
+
+  -- where they were all 0, the words of shard z still are
+  pub still-zero : (z : ℕ) (v : List ℕ) → w ≡ replicate (Z * 2112) 0 → z < Z → Written Z plan w z v
+      → take (z * 2112 + 2112 - z * 2112) (drop (z * 2112) v) ≡ replicate 2112 0
+  still-zero z v e l s =
+      let n : z * 2112 + 2112 - z * 2112 ≡ 2112 = omega arith in
+      let m : Z * 2112 ≡ z * 2112 + (2112 + (Z * 2112 - (z * 2112 + 2112))) = omega (arith, l) in
+      ap₂ (λ (k : ℕ) (x : List ℕ). take k x) n
+      (ap (drop (z * 2112)) (s .words) ∙ drop-at (initialState z plan) (drop (z * 2112) w) (z * 2112) (initial-length z plan))
+      ∙ ap (λ (x : List ℕ). take 2112 (drop (z * 2112) x)) (e ∙ ap (λ (k : ℕ). replicate k 0) m)
+      ∙ zeros-part (z * 2112) 2112 (Z * 2112 - (z * 2112 + 2112))

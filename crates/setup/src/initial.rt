@@ -27,12 +27,11 @@ fn clear(words: &mut [u64])
     }
 }
 
-// One shard's 2,112 words: its head words, and an active replica for each member.
+// One shard's 2,112 words, where they are all 0: its head words, and an active replica for each member.
 fn write_shard(words: &mut [u64], sequencer: u64, members: u64, orderer: u64)
-    requires { ⌜ (length (now words) ≡ shardWords) × (size members ≤ 4) ⌝ }
+    requires { ⌜ (now words ≡ replicate shardWords 0) × (size members ≤ 4) ⌝ }
     ensures { λ _. ⌜ now (words .exit) ≡ initialShard sequencer members orderer ⌝ }
 {
-    clear(words);
     words[0] = sequencer;
     words[INSTALLED] = 1;
     words[MEMBERS] = members;
@@ -51,9 +50,9 @@ fn write_shard(words: &mut [u64], sequencer: u64, members: u64, orderer: u64)
     }
 }
 
-// The whole state.
-pub fn write_state(state: &mut [u64], plan: &[u64], shards: usize)
-    requires { ⌜ (length (now state) ≡ shards * shardWords) × Planned shards (now plan) ⌝ }
+// The shards of a state whose words are all 0.
+pub fn write_shards(state: &mut [u64], plan: &[u64], shards: usize)
+    requires { ⌜ (now state ≡ replicate (shards * shardWords) 0) × Planned shards (now plan) ⌝ }
     ensures { λ _. ⌜ now (state .exit) ≡ initialState shards (now (plan .entry)) ⌝ }
 {
     let mut z = 0;
@@ -64,4 +63,13 @@ pub fn write_state(state: &mut [u64], plan: &[u64], shards: usize)
         write_shard(&mut state[from..end], plan[at], plan[at + 1], plan[at + 2]);
         z += 1;
     }
+}
+
+// The whole state.
+pub fn write_state(state: &mut [u64], plan: &[u64], shards: usize)
+    requires { ⌜ (length (now state) ≡ shards * shardWords) × Planned shards (now plan) ⌝ }
+    ensures { λ _. ⌜ now (state .exit) ≡ initialState shards (now (plan .entry)) ⌝ }
+{
+    clear(state);
+    write_shards(state, plan, shards);
 }

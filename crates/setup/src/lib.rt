@@ -2,7 +2,7 @@
 ghost use mathlib.Core.Path.{_≡_};
 ghost use Rattle.model.specs.Setup.{setupRejection, afterSetup};
 
-mod initial;
+pub mod initial;
 mod plan;
 
 // Setup: 0 and the whole state written, or the rejection (1 or 2) and the state as it was.

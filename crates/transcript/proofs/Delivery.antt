@@ -3,7 +3,7 @@
 use Prim.Native.Nat.{ℕ, _+_, _≤_, _<_}
 use native.Mathlib.Nat.{zero-add}
 use native.Mathlib.Omega.{arith}
-use mathlib.Core.Path.{_≡_, refl, _∙_}
+use mathlib.Core.Path.{_≡_, refl, sym, _∙_}
 use mathlib.Core.List.{List}
 use native.Mathlib.Decide.{decLe}
 use lib.ListN.{length, take, drop, replicate, length-replicate, length-append, length-drop}
@@ -19,7 +19,10 @@ use Rattle.transcript.specs.Largest.{textMost}
 use Rattle.transcript.proofs.LargestText.{text-most}
 use Rattle.transcript.specs.Text.{textRejection, textCount, textWriting, afterText}
 
--- a space of 42,232 bytes has room for every text
+-- a space of 42,232 bytes has room for every text, and so has a longer one
+pub any-fits : (log out : List ℕ) → textMost ≤ length out → length (transcript log) ≤ length out
+any-fits log out h = omega (arith, text-most log)
+
 pub space-fits : (log : List ℕ) → length (transcript log) ≤ length (replicate {A = ℕ} textMost 0)
 space-fits log = rw (length-replicate {A = ℕ} textMost 0) (text-most log)
 
@@ -53,6 +56,14 @@ module _ (out text : List ℕ) where
       × ((writingCount r ≡ textCount out text) × ((r ≡ textWriting out text) × (v ≡ afterText out text)))
   unfolding textWriting textCount
   told e = let c = counted (textRejection out text) text (e .0) in (c .0, (c .1, e))
+
+  -- a text that was written to the start of an output with room for it
+  pub written : length text ≤ length out → {n : ℕ} {v : List ℕ} → (n ≡ length text) × (v ≡ sets out 0 text)
+      → (Bytes n ≡ textWriting out text) × (v ≡ afterText out text)
+  unfolding textWriting afterText
+  written l e =
+      let f = fits l in
+      (rw (f, e .0), e .1 ∙ sets-eq text out 0 (omega (arith, l)) ∙ rw (f, zero-add (length text)))
 
   -- an output keeps its length
   pub text-kept : length (afterText out text) ≡ length out
@@ -88,7 +99,4 @@ module _ (out space : List ℕ) (n : ℕ) (h : n ≤ length space) where
     room = omega (arith, long)
 
     pub delivered : {v : List ℕ} → v ≡ sets out 0 (take n space) → (Bytes n ≡ textWriting out (take n space)) × (v ≡ afterText out (take n space))
-    unfolding textWriting afterText
-    delivered f =
-        let e = fits out (take n space) (omega (arith, l, long)) in
-        (rw (e, long), f ∙ sets-eq (take n space) out 0 room ∙ rw (e, zero-add (length (take n space))))
+    delivered f = written out (take n space) (omega (arith, l, long)) (sym long, f)

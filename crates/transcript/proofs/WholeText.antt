@@ -1,20 +1,23 @@
 -- The lines of a log, as the program makes them: setup, the run, the two shards, the report.
 -- Assumes nothing.
-use Prim.Native.Nat.{ℕ, _≤_, _<_}
+use Prim.Native.Nat.{ℕ, zero, suc, _≤_, _<_}
 use native.Mathlib.Nat.{zero-add}
 use native.Mathlib.Omega.{arith}
-use mathlib.Core.Path.{_≡_, sym, ap, _∙_}
+use mathlib.Core.Path.{_≡_, refl, sym, ap, _∙_}
 use mathlib.Core.List.{List, _++_}
+use lib.Count.{ones}
 use lib.ListN.{length}
 use lib.Seq.{sets}
 use borrow.Author.Tests.{lt-ltb, le-ltb}
-use Rattle.model.specs.Setup.{afterSetup}
+use Rattle.model.specs.Members.{size}
+use Rattle.model.specs.Setup.{planMembers}
 use Rattle.model.specs.Transcript.{newline, tooLongWords, shardLine, lastLine, programPlan, programStart, programBudget, lines, longestLog, tooLong, transcript}
 use Rattle.model.specs.declared.Report.{Report}
 use Rattle.model.specs.Replay.{afterReplay}
 use Rattle.model.proofs.WellFormed.{WellFormed, is-well-formed}
-use Rattle.model.proofs.ProgramStart.{start-left, start-formed}
+use Rattle.model.proofs.ProgramStart.{start-formed}
 use Rattle.lookup.specs.Ready.{Formed}
+use Rattle.setup.specs.Planned.{Planned}
 use Rattle.replay.specs.Run.{reported, runReport, afterRun}
 use Rattle.lookup.proofs.Formed.{formed-of}
 use Rattle.model.proofs.Progress.{Progress, progress-first, progress-room, progress-next}
@@ -45,9 +48,16 @@ lines-are log = rw (left-is log, formed-replayed start-formed log programBudget,
 well-formed-ready : {Z : ℕ} {w : List ℕ} → WellFormed Z w → Formed w
 well-formed-ready {Z} {w} f = formed-of w (λ q. omega (arith, q, f .shards, f .several)) (is-well-formed f)
 
--- setup leaves the program's first state
-pub begun : (w₀ : List ℕ) {w : List ℕ} → length w₀ ≡ 4224 → w ≡ afterSetup w₀ programPlan → w ≡ programStart
-begun w₀ long e = e ∙ start-left w₀ long
+-- the plan of the program may be written
+small : (z : ℕ) → z < 2 → size (planMembers programPlan z) ≤ 4
+unfolding programPlan planMembers ones
+small zero h = omega arith
+small (suc zero) h = omega arith
+small (suc (suc z)) h = absurd (omega arith)
+
+pub planned : Planned 2 programPlan
+unfolding programPlan
+planned = record { most = omega arith; long = refl; few = small }
 
 module _ (log out : List ℕ) (room : length (lines log) ≤ length out) {w : List ℕ} (begins : w ≡ programStart) where
   all-left : Progress out 0 (lines log) out 0 (runLines programStart log ++ fromShards (left log) (runReport programStart log programBudget))

@@ -17,13 +17,17 @@ mod text;
 // No text is longer: the law `text-most`.
 pub const MOST: usize = 42232;
 
-// Writes the text of a log: its length, or rejection 8 where the output is too short, which leaves it untouched.
+// Writes the text of a log: its length, or rejection 8 where the output is too short, which leaves it untouched. An output that is long enough for any
+// text is written at once, another one from a space of its own.
 pub fn transcript(log: &[u8], out: &mut [u8]) -> Writing
     ensures { λ r. ⌜ writingNumber r ≡ textRejection (now (out .entry)) (transcript (now (log .entry))) ⌝ }
     ensures { λ r. ⌜ writingCount r ≡ textCount (now (out .entry)) (transcript (now (log .entry))) ⌝ }
     ensures { λ r. ⌜ r ≡ textWriting (now (out .entry)) (transcript (now (log .entry))) ⌝ }
     ensures { λ _. ⌜ now (out .exit) ≡ afterText (now (out .entry)) (transcript (now (log .entry))) ⌝ }
 {
+    if MOST <= out.len() {
+        return Writing::Bytes(text::write_text(log, out));
+    }
     let mut space = [0u8; MOST];
     let length = text::write_text(log, &mut space);
     deliver(out, &space, length)

@@ -31,6 +31,7 @@ pub fn write_steps(state: &mut [u64], log: &[u8], out: &mut [u8]) -> Printed
     ensures { λ _. ⌜ now (state .exit) ≡ afterRun (now (state .entry)) (now (log .entry)) programBudget ⌝ }
     ensures { λ _. ⌜ now (out .exit) ≡ sets (now (out .entry)) 0 (runLines (now (state .entry)) (now (log .entry))) ⌝ }
 {
+    let shards = wellformed::shard_count(state.len());
     let mut at: usize = 0;
     let mut tried: u64 = 0;
     let mut rejected: u64 = 0;
@@ -39,7 +40,15 @@ pub fn write_steps(state: &mut [u64], log: &[u8], out: &mut [u8]) -> Printed
         match log::reader::read_step(log, at) {
             Reading::Step { step, next } => {
                 let kind = step.kind;
-                let answer = machine::step_inside(state, step);
+                let answer = machine::step_numbers(
+                    state,
+                    shards,
+                    kind,
+                    step.a,
+                    step.b,
+                    step.c,
+                    step.d,
+                );
                 if answer != 0 {
                     rejected += 1;
                 }

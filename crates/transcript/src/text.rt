@@ -13,6 +13,8 @@ ghost use Rattle.model.specs.Transcript.{lines, transcript};
 const LONGEST_LOG: usize = 16384;
 
 // The program's state has two shards.
+const SHARDS: usize = 2;
+
 const STATE_WORDS: usize = 4224;
 
 // Writes the text at the start of an output that has room for it, and returns its length.
@@ -35,7 +37,7 @@ fn write_lines(log: &[u8], out: &mut [u8]) -> usize
 {
     let mut state = [0u64; STATE_WORDS];
     let plan: [u64; 6] = [1, 3, 0, 0, 12, 2];
-    setup::setup(&mut state, &plan);
+    setup::initial::write_shards(&mut state, &plan, SHARDS);
     let p = write_steps(&mut state, log, out);
     let stop = p.stop;
     let a = write_shard(out, p.end, &state, 0);

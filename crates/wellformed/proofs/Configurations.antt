@@ -1,8 +1,8 @@
 -- The test of a configuration of a state, as tests of the words where the code reads them.
-use Prim.Native.Nat.{ℕ, _+_, _*_, _/_, _%_, _≤_, _<_}
+use Prim.Native.Nat.{ℕ, _+_, _*_, _-_, _/_, _%_, _≤_, _<_}
 use native.Mathlib.Nat.{div-add-mod', mod-lt}
 use native.Mathlib.Omega.{arith}
-use mathlib.Core.Path.{_≡_, sym, ap, subst, _∙_}
+use mathlib.Core.Path.{_≡_, sym, ap, ap₂, subst, _∙_}
 use mathlib.Core.Bool.{Bool, true, false, _&&_, and-true, and-false}
 use mathlib.Core.List.{List}
 use lib.Dec.{ltb, eqb}
@@ -15,42 +15,42 @@ use Rattle.model.specs.Layout.{place, isInstalled, part, replicaAt}
 use Rattle.model.specs.Origins.{isOriginOf}
 use Rattle.model.specs.WellFormed.{isPart, isHeadOf, isConfigurationOf}
 use Rattle.model.proofs.Tests.{all-below, below-all}
-use Rattle.model.proofs.Ranges.{same-test, alike}
+use Rattle.model.proofs.Ranges.{same-test, parted, alike}
 use Rattle.model.proofs.WellFormedMembers.{configured}
-use Rattle.wellformed.proofs.Zeros.{zeros, part-length, zeros-at}
+use Rattle.wellformed.specs.Shapes.{zeros}
+use Rattle.wellformed.proofs.Zeros.{part-length, zeros-at}
 use Rattle.wellformed.proofs.Words.{unused-words}
 use Rattle.model.proofs.Heads.{installed-word, members-word, orderer-word}
 
--- ---- four parts in a row
+-- ---- parts in a row
 
-four : (f : ℕ → Bool) → allBelow 4 (λ k. allBelow 64 (λ i. f (k * 64 + i))) ≡ allBelow 256 f
-four f =
-    same-test (allBelow 4 (λ k. allBelow 64 (λ i. f (k * 64 + i)))) (allBelow 256 f)
-    (λ e. below-all 256 f
+rows : (n : ℕ) (f : ℕ → Bool) → allBelow n (λ k. allBelow 64 (λ i. f (k * 64 + i))) ≡ allBelow (n * 64) f
+rows n f =
+    same-test (allBelow n (λ k. allBelow 64 (λ i. f (k * 64 + i)))) (allBelow (n * 64) f)
+    (λ e. below-all (n * 64) f
     (λ i h.
-    let q : i / 64 < 4 = omega (arith, div-add-mod' i 64) in
     let r : i % 64 < 64 = mod-lt i (omega arith) in
+    let q : i / 64 < n = omega (arith, div-add-mod' i 64, r, h) in
     subst (λ (x : ℕ). f x ≡ true) (div-add-mod' i 64)
-    (all-below 64 (λ r. f (i / 64 * 64 + r)) (all-below 4 (λ k. allBelow 64 (λ i. f (k * 64 + i))) e (i / 64) q) (i % 64) r)))
-    (λ e. below-all 4 (λ k. allBelow 64 (λ i. f (k * 64 + i)))
-    (λ k hk. below-all 64 (λ i. f (k * 64 + i)) (λ i hi. all-below 256 f e (k * 64 + i) (omega arith))))
+    (all-below 64 (λ r. f (i / 64 * 64 + r)) (all-below n (λ k. allBelow 64 (λ i. f (k * 64 + i))) e (i / 64) q) (i % 64) r)))
+    (λ e. below-all n (λ k. allBelow 64 (λ i. f (k * 64 + i)))
+    (λ k hk. below-all 64 (λ i. f (k * 64 + i)) (λ i hi. all-below (n * 64) f e (k * 64 + i) (omega (arith, hk, hi)))))
 
--- no members: all four parts are 0
-no-parts : (w : List ℕ) (Z j at : ℕ) → at + 256 ≤ length w
-    → zeros (take 256 (drop at w)) ≡ allBelow 4 (λ k. isPart Z j (ltb k 0) (part w (at + k * 64)))
+-- n parts of no member are all 0
+no-parts : (w : List ℕ) (Z j at n : ℕ) → at + n * 64 ≤ length w
+    → zeros (take (n * 64) (drop at w)) ≡ allBelow n (λ k. isPart Z j false (part w (at + k * 64)))
 unfolding part
-no-parts w Z j at fits =
-    zeros-at 256 at w fits ∙ sym (four (λ i. eqb (getD w (at + i) 0) 0))
-    ∙ alike 4 (λ k. allBelow 64 (λ i. eqb (getD w (at + (k * 64 + i)) 0) 0)) (λ k. isPart Z j (ltb k 0) (take 64 (drop (at + k * 64) w))) one
+no-parts w Z j at n fits =
+    zeros-at (n * 64) at w fits ∙ sym (rows n (λ i. eqb (getD w (at + i) 0) 0))
+    ∙ alike n (λ k. allBelow 64 (λ i. eqb (getD w (at + (k * 64 + i)) 0) 0)) (λ k. isPart Z j false (take 64 (drop (at + k * 64) w))) one
   where
-    one : (k : ℕ) → k < 4 → allBelow 64 (λ i. eqb (getD w (at + (k * 64 + i)) 0) 0) ≡ isPart Z j (ltb k 0) (take 64 (drop (at + k * 64) w))
+    one : (k : ℕ) → k < n → allBelow 64 (λ i. eqb (getD w (at + (k * 64 + i)) 0) 0) ≡ isPart Z j false (take 64 (drop (at + k * 64) w))
     one k h =
-        let f : at + k * 64 + 64 ≤ length w = omega arith in
+        let f : at + k * 64 + 64 ≤ length w = omega (arith, h, fits) in
         alike 64 (λ i. eqb (getD w (at + (k * 64 + i)) 0) 0) (λ i. eqb (getD w (at + k * 64 + i) 0) 0)
         (λ i l. ap (λ (x : ℕ). eqb (getD w x 0) 0) (omega arith))
         ∙ sym (zeros-at 64 (at + k * 64) w f)
         ∙ sym (unused-words Z j (take 64 (drop (at + k * 64) w)) (part-length 64 (at + k * 64) w f))
-        ∙ ap (λ (b : Bool). isPart Z j b (take 64 (drop (at + k * 64) w))) (sym (le-ltb k 0 (omega arith)))
 
 -- ---- a configuration
 
@@ -70,6 +70,48 @@ firstPlace z j = z * 2112 + 64 + j * 256
 -- the four parts, the first n of them members'
 abbrev pub areParts : List ℕ → ℕ → ℕ → ℕ → ℕ → Bool
 areParts w Z j p n = allBelow 4 (λ k. isPart Z j (ltb k n) (part w (p + k * 64)))
+
+-- members' replicas, the first n
+abbrev pub areReplicas : List ℕ → ℕ → ℕ → ℕ → ℕ → Bool
+areReplicas w Z j p n = allBelow n (λ k. isPart Z j true (part w (p + k * 64)))
+
+-- the words past those
+abbrev pub restOf : List ℕ → ℕ → ℕ → List ℕ
+restOf w p n = take (p + 256 - (p + n * 64)) (drop (p + n * 64) w)
+
+-- the members' replicas, and then nothing but 0
+parts-of : (w : List ℕ) (Z j p n : ℕ) → p + 256 ≤ length w → n ≤ 4 → (areReplicas w Z j p n && zeros (restOf w p n)) ≡ areParts w Z j p n
+parts-of w Z j p n fits few =
+    ap₂ _&&_ (alike n (λ k. isPart Z j true (at k)) test (λ k h. ap (λ (b : Bool). isPart Z j b (at k)) (sym (lt-ltb k n h)))) rest
+    ∙ sym (parted n (4 - n) test) ∙ ap (λ (m : ℕ). allBelow m test) whole
+  where
+    at : ℕ → List ℕ
+    at k = part w (p + k * 64)
+
+    test : ℕ → Bool
+    test k = isPart Z j (ltb k n) (at k)
+
+    whole : n + (4 - n) ≡ 4
+    whole = omega (arith, few)
+
+    left : p + 256 - (p + n * 64) ≡ (4 - n) * 64
+    left = omega (arith, few)
+
+    past : (k : ℕ) → isPart Z j false (part w (p + n * 64 + k * 64)) ≡ test (n + k)
+    past k =
+        let moved : p + n * 64 + k * 64 ≡ p + (n + k) * 64 = omega arith in
+        ap₂ (λ (b : Bool) (x : ℕ). isPart Z j b (part w x)) (sym (le-ltb (n + k) n (omega arith))) moved
+
+    rest : zeros (restOf w p n) ≡ allBelow (4 - n) (λ k. test (n + k))
+    rest =
+        ap (λ (m : ℕ). zeros (take m (drop (p + n * 64) w))) left ∙ no-parts w Z j (p + n * 64) (4 - n) (omega (arith, few, fits))
+        ∙ alike (4 - n) (λ k. isPart Z j false (part w (p + n * 64 + k * 64))) (λ k. test (n + k)) (λ k h. past k)
+
+pub wrong-replicas : (w : List ℕ) (Z j p n : ℕ) → p + 256 ≤ length w → n ≤ 4 → false ≡ areReplicas w Z j p n → false ≡ areParts w Z j p n
+wrong-replicas w Z j p n fits few e = ap (λ (b : Bool). b && zeros (restOf w p n)) e ∙ parts-of w Z j p n fits few
+
+pub right-replicas : (w : List ℕ) (Z j p n : ℕ) → p + 256 ≤ length w → n ≤ 4 → true ≡ areReplicas w Z j p n → zeros (restOf w p n) ≡ areParts w Z j p n
+right-replicas w Z j p n fits few e = ap (λ (b : Bool). b && zeros (restOf w p n)) e ∙ parts-of w Z j p n fits few
 
 -- the origins of the first n
 abbrev pub areOrigins : List ℕ → ℕ → ℕ → ℕ → Bool
@@ -111,7 +153,13 @@ module _ (w : List ℕ) (Z z j : ℕ) where
   pub some-orderer : countWord w z ≤ j → (ordererWord w z j ≡ 0 → ⊥) → false ≡ isConfigurationOf w Z z j
   some-orderer h n = rw (not-in-place h, ne-eqb (ordererWord w z j) 0 n, and-false)
 
+  none : firstPlace z j + 256 ≤ length w → zeros (take 256 (drop (firstPlace z j) w)) ≡ areParts w Z j (firstPlace z j) 0
+  none f =
+      no-parts w Z j (firstPlace z j) 4 f
+      ∙ alike 4 (λ k. isPart Z j false (part w (firstPlace z j + k * 64))) (λ k. isPart Z j (ltb k 0) (part w (firstPlace z j + k * 64)))
+      (λ k h. ap (λ (b : Bool). isPart Z j b (part w (firstPlace z j + k * 64))) (sym (le-ltb k 0 (omega arith))))
+
   pub no-members : firstPlace z j + 256 ≤ length w → countWord w z ≤ j → membersWord w z j ≡ 0 → ordererWord w z j ≡ 0
       → zeros (take 256 (drop (firstPlace z j) w)) ≡ isConfigurationOf w Z z j
   unfolding ones allBelow
-  no-members f h m o = rw (not-in-place h, m, o) (no-parts w Z j (firstPlace z j) f ∙ sym (and-true _))
+  no-members f h m o = rw (not-in-place h, m, o) (none f ∙ sym (and-true _))

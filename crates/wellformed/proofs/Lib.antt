@@ -6,3 +6,7 @@ pub mod Configurations
 pub mod Origins
 pub mod Shards
 pub mod Takes
+pub mod Shapes
+pub mod Lengths
+pub mod Ones
+pub mod Marks

@@ -11,7 +11,8 @@ use Rattle.model.specs.Tests.{allBelow}
 use Rattle.model.specs.Layout.{headPlace, headWord}
 use Rattle.model.specs.WellFormed.{isSequencer, isConfigurationOf, isShard}
 use Rattle.model.proofs.Ranges.{alike}
-use Rattle.wellformed.proofs.Zeros.{zeros, zeros-at}
+use Rattle.wellformed.specs.Shapes.{zeros}
+use Rattle.wellformed.proofs.Zeros.{zeros-at}
 use Rattle.model.proofs.Heads.{sequencer-word, installed-word}
 use Rattle.wellformed.proofs.Configurations.{countWord}
 

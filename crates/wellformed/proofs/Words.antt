@@ -15,18 +15,23 @@ use Rattle.model.specs.WellFormed.{isReplica, isPart}
 use Rattle.model.proofs.Tests.{both}
 use Rattle.model.proofs.WellFormedParts.{same-self, Proper, is-proper, part-is-words, part-proper, part-vacant, unused-part}
 use Rattle.model.proofs.Ranges.{same-test}
-use Rattle.wellformed.proofs.Zeros.{zeros, zeros-replicate, replicate-zeros}
+use Rattle.wellformed.specs.Shapes.{zeros}
+use Rattle.wellformed.proofs.Zeros.{zeros-replicate, replicate-zeros}
 
--- what a member's replica in configuration j, of Z shards, has in its words
-pub record Used (Z j : ℕ) (p : List ℕ) : Type 0 where
+-- what a member's replica in configuration j has in its words, but for its entries
+pub record Shaped (j : ℕ) (p : List ℕ) : Type 0 where
   pub mode-least : 1 ≤ getD p 0 0
   pub mode-most : getD p 0 0 ≤ 3
   pub few : getD p 1 0 ≤ 56
   pub stable-most : getD p 2 0 ≤ getD p 1 0
   pub waits : getD p 0 0 ≡ 1 → (getD p 1 0 ≡ 0) × (1 ≤ j)
   pub reserved : zeros (take 4 (drop 4 p)) ≡ true
-  pub entries : allOf (isEntry Z) (take (getD p 1 0) (drop 8 p)) ≡ true
   pub rest : zeros (drop (8 + getD p 1 0) p) ≡ true
+
+-- the same with proper entries, of Z shards
+pub record Used (Z j : ℕ) (p : List ℕ) : Type 0 where
+  pub shape : Shaped j p
+  pub entries : allOf (isEntry Z) (take (getD p 1 0) (drop 8 p)) ≡ true
 
 -- a list's first eight words, and the others
 data Eight : List ℕ → Type 0 where
@@ -60,14 +65,16 @@ used-of Z j (eight a b c d e f g h t) pass =
     let s : t ≡ take b t ++ replicate (56 - length (take b t)) 0 = cc in
     let z : e ∷ f ∷ g ∷ h ∷ [] ≡ 0 ∷ 0 ∷ 0 ∷ 0 ∷ [] = cc in
     record {
-      mode-least = r .mode-least;
-      mode-most = r .mode-most;
-      few = omega (arith, r .few);
-      stable-most = omega (arith, r .stable-most);
-      waits = λ m. let k = r .waits (eq-eqb a 1 m) in (n ∙ k .0, k .1);
-      reserved = ap zeros z ∙ zeros-replicate 4;
+      shape = record {
+        mode-least = r .mode-least;
+        mode-most = r .mode-most;
+        few = omega (arith, r .few);
+        stable-most = omega (arith, r .stable-most);
+        waits = λ m. let k = r .waits (eq-eqb a 1 m) in (n ∙ k .0, k .1);
+        reserved = ap zeros z ∙ zeros-replicate 4;
+        rest = ap zeros (sym (drop-drop b 8 p) ∙ tail-of b t n s) ∙ zeros-replicate (56 - length (take b t));
+      };
       entries = r .entries;
-      rest = ap zeros (sym (drop-drop b 8 p) ∙ tail-of b t n s) ∙ zeros-replicate (56 - length (take b t));
     }
 
 -- words that are those of the replica in them, which is proper
@@ -83,22 +90,23 @@ of-used : (Z j : ℕ) {p : List ℕ} → Eight p → length p ≡ 64 → Used Z 
 unfolding replicaWords readReplica isPending
 of-used Z j (eight a b c d e f g h t) l u =
     let p : List ℕ = a ∷ b ∷ c ∷ d ∷ e ∷ f ∷ g ∷ h ∷ t in
+    let q : Shaped j p = u .shape in
     let m : length t ≡ 56 = omega arith in
-    let n : length (take b t) ≡ b = length-take-le b t (omega (arith, u .few)) in
-    let z : e ∷ f ∷ g ∷ h ∷ [] ≡ 0 ∷ 0 ∷ 0 ∷ 0 ∷ [] = replicate-zeros (e ∷ f ∷ g ∷ h ∷ []) 4 refl (u .reserved) in
+    let n : length (take b t) ≡ b = length-take-le b t (omega (arith, q .few)) in
+    let z : e ∷ f ∷ g ∷ h ∷ [] ≡ 0 ∷ 0 ∷ 0 ∷ 0 ∷ [] = replicate-zeros (e ∷ f ∷ g ∷ h ∷ []) 4 refl (q .reserved) in
     let k : length (drop b t) ≡ 56 - length (take b t) = omega (arith, length-drop b t) in
     let x : drop b t ≡ replicate (56 - length (take b t)) 0 =
-    replicate-zeros (drop b t) (56 - length (take b t)) k (ap zeros (drop-drop b 8 p) ∙ u .rest) in
+    replicate-zeros (drop b t) (56 - length (take b t)) k (ap zeros (drop-drop b 8 p) ∙ q .rest) in
     let s : t ≡ take b t ++ replicate (56 - length (take b t)) 0 = sym (take-append-drop b t) ∙ ap (λ (q : List ℕ). take b t ++ q) x in
     let w : p ≡ replicaWords (readReplica p) = cc in
     proper-words Z j p w
     (record {
-      mode-least = u .mode-least;
-      mode-most = u .mode-most;
-      few = omega (arith, u .few);
-      stable-most = omega (arith, u .stable-most);
+      mode-least = q .mode-least;
+      mode-most = q .mode-most;
+      few = omega (arith, q .few);
+      stable-most = omega (arith, q .stable-most);
       entries = u .entries;
-      waits = λ y. let v = u .waits (eqb-true a 1 y) in (n ∙ v .0, v .1);
+      waits = λ y. let v = q .waits (eqb-true a 1 y) in (n ∙ v .0, v .1);
     })
 
 -- ---- the words of no member
@@ -122,12 +130,6 @@ used Z j p l e = used-of Z j (opened p l) e
 
 pub is-used : (Z j : ℕ) (p : List ℕ) → length p ≡ 64 → Used Z j p → isPart Z j true p ≡ true
 is-used Z j p l u = of-used Z j (opened p l) l u
-
--- the last test decides, where the others passed
-pub last-test : (Z j : ℕ) (p : List ℕ) → length p ≡ 64 → (zeros (drop (8 + getD p 1 0) p) ≡ true → Used Z j p)
-    → zeros (drop (8 + getD p 1 0) p) ≡ isPart Z j true p
-last-test Z j p l f =
-    same-test (zeros (drop (8 + getD p 1 0) p)) (isPart Z j true p) (λ e. is-used Z j p l (f e)) (λ e. used Z j p l e .rest)
 
 zeros-part : (Z j : ℕ) → isPart Z j false (replicate 64 0) ≡ true
 unfolding replicaWords unused

@@ -1,42 +1,25 @@
 -- Laws of words that are all 0: joined by `|` they are 0, and they are so many zeros.
 use Prim.Native.Nat.{ℕ, _+_, _-_, _≤_}
 use native.Mathlib.Omega.{arith}
-use mathlib.Core.Path.{_≡_, sym, ap, _∙_}
+use mathlib.Core.Path.{_≡_, sym, ap, ap₂, _∙_}
 use mathlib.Core.Bool.{Bool, true, _&&_}
 use mathlib.Core.List.{List}
 use lib.Dec.{eqb}
-use lib.Bits.{bitOr, or-add-and, and-le-l, and-le-r}
+use lib.Bits.{bitOr}
 use lib.ListN.{length, getD, take, drop, replicate, length-drop, length-replicate, getD-replicate}
 use lib.Seq.{length-take-le, take-all, getD-take, getD-drop, ext-getD}
 use borrow.Author.Tests.{eqb-true, eq-eqb}
 use Rattle.model.specs.Tests.{allBelow}
-use Rattle.model.proofs.Tests.{both, all-below, below-all}
-use Rattle.model.proofs.Ranges.{same-test, one-more, alike}
-
--- all words of a list are 0
-abbrev pub zeros : List ℕ → Bool
-zeros l = allBelow (length l) (λ i. eqb (getD l i 0) 0)
+use Rattle.model.proofs.Tests.{all-below, below-all}
+use Rattle.model.proofs.Ranges.{one-more, parted, alike}
+use Rattle.model.proofs.Joined.{or-zero}
+use Rattle.wellformed.specs.Shapes.{zeros}
 
 -- ---- words joined
 
-pub or-zero : (a b : ℕ) → eqb (bitOr a b) 0 ≡ (eqb a 0 && eqb b 0)
-or-zero a b =
-    same-test (eqb (bitOr a b) 0) (eqb a 0 && eqb b 0)
-    (λ e.
-    let z = eqb-true (bitOr a b) 0 e in
-    both (eqb a 0) (eqb b 0) .1 (
-      eq-eqb a 0 (omega (arith, or-add-and a b, and-le-l a b, and-le-r a b)),
-      eq-eqb b 0 (omega (arith, or-add-and a b, and-le-l a b, and-le-r a b)),
-    ))
-    (λ e.
-    let t = both (eqb a 0) (eqb b 0) .0 e in
-    eq-eqb (bitOr a b) 0 (omega (arith, eqb-true a 0 (t .0), eqb-true b 0 (t .1), or-add-and a b)))
-
 -- one word more
-pub joined-more : (l : List ℕ) (i x : ℕ) → eqb x 0 ≡ allBelow i (λ k. eqb (getD l k 0) 0)
-    → eqb (bitOr x (getD l i 0)) 0 ≡ allBelow (i + 1) (λ k. eqb (getD l k 0) 0)
-joined-more l i x e =
-    or-zero x (getD l i 0) ∙ ap (λ (b : Bool). b && eqb (getD l i 0) 0) e ∙ sym (one-more i (λ k. eqb (getD l k 0) 0))
+pub joined-more : (f : ℕ → ℕ) (i x : ℕ) → eqb x 0 ≡ allBelow i (λ k. eqb (f k) 0) → eqb (bitOr x (f i)) 0 ≡ allBelow (i + 1) (λ k. eqb (f k) 0)
+joined-more f i x e = or-zero x (f i) ∙ ap (λ (b : Bool). b && eqb (f i) 0) e ∙ sym (one-more i (λ k. eqb (f k) 0))
 
 -- ---- as many zeros
 
@@ -66,3 +49,16 @@ module _ (n at : ℕ) (l : List ℕ) (fits : at + n ≤ length l) where
       ap (λ (m : ℕ). allBelow m (λ i. eqb (getD (take n (drop at l)) i 0) 0)) part-length
       ∙ alike n (λ i. eqb (getD (take n (drop at l)) i 0) 0) (λ i. eqb (getD l (at + i) 0) 0)
       (λ i h. ap (λ (x : ℕ). eqb x 0) (getD-take n (drop at l) i 0 h ∙ getD-drop at l i 0))
+
+-- words in two parts
+pub zeros-parted : (n : ℕ) (l : List ℕ) → n ≤ length l → zeros l ≡ (zeros (take n l) && zeros (drop n l))
+zeros-parted n l h =
+    ap (λ (m : ℕ). allBelow m (λ i. eqb (getD l i 0) 0)) (omega (arith, length-drop n l))
+    ∙ parted n (length (drop n l)) (λ i. eqb (getD l i 0) 0)
+    ∙ ap₂ _&&_ (sym first) (alike (length (drop n l)) (λ i. eqb (getD l (n + i) 0) 0) (λ i. eqb (getD (drop n l) i 0) 0)
+    (λ i k. ap (λ (x : ℕ). eqb x 0) (sym (getD-drop n l i 0))))
+  where
+    first : zeros (take n l) ≡ allBelow n (λ i. eqb (getD l i 0) 0)
+    first =
+        ap (λ (m : ℕ). allBelow m (λ i. eqb (getD (take n l) i 0) 0)) (length-take-le n l h)
+        ∙ alike n (λ i. eqb (getD (take n l) i 0) 0) (λ i. eqb (getD l i 0) 0) (λ i k. ap (λ (x : ℕ). eqb x 0) (getD-take n l i 0 k))

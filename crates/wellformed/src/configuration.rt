@@ -4,13 +4,16 @@ use crate::origin;
 use crate::replica;
 use model::configuration::Configuration;
 use model::layout::CONFIGURATION_WORDS;
+use model::layout::ENTRIES;
 use model::layout::HEAD_WORDS;
 use model::layout::INSTALLED;
+use model::layout::LENGTH;
 use model::layout::MEMBERS;
 use model::layout::ORDERERS;
 use model::layout::REPLICA_WORDS;
 use model::layout::SHARD_WORDS;
 ghost use mathlib.Core.Path.{_≡_};
+ghost use mathlib.Core.Bool.{true};
 ghost use Prim.Native.Nat.{_+_, _*_, _≤_, _<_};
 ghost use lib.Dec.{ltb};
 ghost use lib.ListN.{length};
@@ -19,21 +22,46 @@ ghost use Rattle.model.specs.Layout.{shardWords, configurationWords, partWords,
 ghost use Rattle.model.specs.WellFormed.{isPart, isConfigurationOf};
 ghost use Rattle.wellformed.specs.Before.{FewBefore};
 
-// Whether the four replicas at a place are those of configuration j, the first `size` of them members'.
-pub fn all_parts(state: &[u64], shards: usize, j: usize, place: usize, size: usize) -> bool
-    requires { ⌜ place + configurationWords ≤ length (now state) ⌝ }
-    ensures { λ r. ⌜ r ≡ allBelow 4 (λ k. isPart shards j (ltb k size) (part (now (state .entry)) (place + k * partWords))) ⌝ }
+// Whether the first `size` replicas at a place are those of members of configuration j. Replicas mostly agree: a history that was tested entry by entry
+// is known, and the others are held against it first.
+fn all_replicas(state: &[u64], shards: usize, j: usize, place: usize, size: usize) -> bool
+    requires { ⌜ place + size * partWords ≤ length (now state) ⌝ }
+    ensures { λ r. ⌜ r ≡ allBelow size (λ k. isPart shards j true (part (now (state .entry)) (place + k * partWords))) ⌝ }
 {
+    let mut known = place;
+    let mut known_end = place;
     let mut k = 0;
-    while k < 4 {
+    while k < size {
         let from = place + k * REPLICA_WORDS;
         let end = from + REPLICA_WORDS;
-        if !replica::is_part(&state[from..end], shards, j, k < size) {
+        if !replica::is_shape(&state[from..end], j) {
             return false;
+        }
+        let first = from + ENTRIES;
+        let last = first + (state[from + LENGTH] as usize);
+        if !replica::is_known(&state[first..last], &state[known..known_end]) {
+            if !replica::each_entry(&state[first..last], shards) {
+                return false;
+            }
+            known = first;
+            known_end = last;
         }
         k += 1;
     }
     true
+}
+
+// Whether the four replicas at a place are those of configuration j, the first `size` of them members'. All others are 0.
+pub fn all_parts(state: &[u64], shards: usize, j: usize, place: usize, size: usize) -> bool
+    requires { ⌜ (place + configurationWords ≤ length (now state)) × (size ≤ 4) ⌝ }
+    ensures { λ r. ⌜ r ≡ allBelow 4 (λ k. isPart shards j (ltb k size) (part (now (state .entry)) (place + k * partWords))) ⌝ }
+{
+    if !all_replicas(state, shards, j, place, size) {
+        return false;
+    }
+    let from = place + size * REPLICA_WORDS;
+    let end = place + CONFIGURATION_WORDS;
+    replica::all_zero(&state[from..end])
 }
 
 // Whether configuration j of shard z is well-formed.

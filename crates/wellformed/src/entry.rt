@@ -11,24 +11,29 @@ pub fn is_take(e: u64) -> bool
     1 <= e && e <= 4294967295
 }
 
-// Whether a word is a proper issue, where there are `shards` shards.
+// What an index is multiplied with in an issue's word.
+const INDEX: u64 = 16777216;
+
+// The least and the largest index, with the mark of an issue before it, 256.
+const LEAST_INDEX: u64 = 258;
+
+const LARGEST_INDEX: u64 = 264;
+
+// Whether a word is a proper issue, where there are `shards` shards. Its mark and its index are one number.
 pub fn is_proper_issue(shards: usize, e: u64) -> bool
     ensures { λ r. ⌜ r ≡ isProperIssue shards e ⌝ }
 {
-    if !entry::is_issue(e) {
+    let index = e / INDEX;
+    if index < LEAST_INDEX {
         return false;
     }
-    let index = entry::issue_index(e);
-    if index < 2 {
-        return false;
-    }
-    if 8 < index {
+    if LARGEST_INDEX < index {
         return false;
     }
     if shards as u64 <= entry::issue_shard(e) {
         return false;
     }
-    members::is_configuration(entry::issue_members(e), entry::issue_orderer(e))
+    members::is_appointed(entry::issue_members(e), entry::issue_orderer(e))
 }
 
 // Whether a word is a proper entry. A take is told by one comparison, before issues are looked at.

@@ -4,6 +4,7 @@ ghost use mathlib.Core.Path.{_≡_};
 ghost use Rattle.model.specs.Layout.{shardsOf};
 ghost use Rattle.model.specs.WellFormed.{wellFormed};
 ghost use Rattle.model.specs.Replay.{replayRejection};
+ghost use Rattle.wellformed.specs.Lengths.{chosen};
 
 mod configuration;
 pub mod entry;
@@ -13,20 +14,24 @@ mod replica;
 pub mod sequencer;
 pub mod shard;
 
-// The number of shards of a state of `len` words, 0 where no state has that length.
+// A number of shards where a length is theirs, else 0.
+fn shards_of(len: usize, words: usize, shards: usize) -> usize
+    ensures { λ r. ⌜ r ≡ chosen len words shards ⌝ }
+{
+    if len == words { shards } else { 0 }
+}
+
+// The number of shards of a state of `len` words, 0 where no state has that length. One of the seven comparisons holds at most, and none is a branch.
 pub fn shard_count(len: usize) -> usize
     ensures { λ r. ⌜ r ≡ shardsOf len ⌝ }
 {
-    match len {
-        4224 => 2,
-        6336 => 3,
-        8448 => 4,
-        10560 => 5,
-        12672 => 6,
-        14784 => 7,
-        16896 => 8,
-        _ => 0,
-    }
+    shards_of(len, 4224, 2)
+        + shards_of(len, 6336, 3)
+        + shards_of(len, 8448, 4)
+        + shards_of(len, 10560, 5)
+        + shards_of(len, 12672, 6)
+        + shards_of(len, 14784, 7)
+        + shards_of(len, 16896, 8)
 }
 
 // Whether a state is well-formed.

@@ -7,13 +7,13 @@ use model::layout::PENDING;
 use model::layout::RESERVED;
 use model::layout::STABLE;
 ghost use mathlib.Core.Path.{_≡_};
-ghost use mathlib.Core.Bool.{true, not, _&&_, _||_};
+ghost use mathlib.Core.Bool.{not, _&&_, _||_};
 ghost use lib.Dec.{eqb, leb};
 ghost use lib.ListN.{length, getD};
 ghost use Rattle.model.specs.Tests.{allBelow, allOf};
 ghost use Rattle.model.specs.Entries.{isTake, isEntry};
 ghost use Rattle.model.specs.Layout.{partWords};
-ghost use Rattle.model.specs.WellFormed.{isPart};
+ghost use Rattle.wellformed.specs.Shapes.{areFirstOf, isKnown, isShape};
 
 // Whether all words are 0: joined without an early exit, and tested once.
 pub fn all_zero(words: &[u64]) -> bool
@@ -28,18 +28,24 @@ pub fn all_zero(words: &[u64]) -> bool
     joined == 0
 }
 
-// Whether all words are takes: each is joined with the number before it, without an early exit, and all are tested once.
+// Whether all words are takes. Two halves, which may share a word, are gone through side by side: the words are joined, and so are the numbers
+// before them, without an early exit, and all are tested once.
 pub fn all_takes(words: &[u64]) -> bool
     ensures { λ r. ⌜ r ≡ allOf isTake (now (words .entry)) ⌝ }
 {
+    let from = words.len() / 2;
+    let half = words.len() - from;
     let mut joined: u64 = 0;
+    let mut before: u64 = 0;
     let mut i = 0;
-    while i < words.len() {
+    while i < half {
         let e = words[i];
-        joined = joined | e | std::num::wrapping_sub_u64(e, 1);
+        let f = words[from + i];
+        joined = joined | e | f;
+        before = before | std::num::wrapping_sub_u64(e, 1) | std::num::wrapping_sub_u64(f, 1);
         i += 1;
     }
-    joined < 4294967296
+    (joined | before) < 4294967296
 }
 
 // Whether all words are proper entries, tested one by one.
@@ -56,14 +62,37 @@ pub fn each_entry(words: &[u64], shards: usize) -> bool
     true
 }
 
-// Whether all words are proper entries. Most histories have takes alone.
-pub fn all_entries(words: &[u64], shards: usize) -> bool
-    ensures { λ r. ⌜ r ≡ allOf (isEntry shards) (now (words .entry)) ⌝ }
+// Whether words are the first of others. Histories that differ mostly differ in the last place of the shorter one, which is looked at first; then what
+// differs is joined without an early exit, and tested once.
+pub fn begins(words: &[u64], others: &[u64]) -> bool
+    ensures { λ r. ⌜ r ≡ areFirstOf (now (words .entry)) (now (others .entry)) ⌝ }
 {
-    if all_takes(words) {
-        return true;
+    let count = words.len();
+    if others.len() < count {
+        return false;
     }
-    each_entry(words, shards)
+    if 0 < count {
+        if words[count - 1] != others[count - 1] {
+            return false;
+        }
+    }
+    let mut joined: u64 = 0;
+    let mut i = 0;
+    while i < count {
+        joined = joined | (words[i] ^ others[i]);
+        i += 1;
+    }
+    joined == 0
+}
+
+// Whether a history need not be tested entry by entry: it is the first entries of one that was. Before one was, it has to have takes alone.
+pub fn is_known(words: &[u64], known: &[u64]) -> bool
+    ensures { λ r. ⌜ r ≡ isKnown (now (words .entry)) (now (known .entry)) ⌝ }
+{
+    if known.len() == 0 {
+        return all_takes(words);
+    }
+    begins(words, known)
 }
 
 // Whether a replica of configuration j that has this mode and length may be pending, or is not.
@@ -79,10 +108,11 @@ pub fn may_wait(mode: u64, len: u64, j: usize) -> bool
     1 <= j
 }
 
-// Whether the words are those of a member's replica in configuration j.
-pub fn is_replica(words: &[u64], shards: usize, j: usize) -> bool
+// Whether the words are those of a member's replica in configuration j, but for its entries. A replica without entries has nothing but 0 from the
+// reserved words on.
+pub fn is_shape(words: &[u64], j: usize) -> bool
     requires { ⌜ length (now words) ≡ partWords ⌝ }
-    ensures { λ r. ⌜ r ≡ isPart shards j true (now (words .entry)) ⌝ }
+    ensures { λ r. ⌜ r ≡ isShape j (now (words .entry)) ⌝ }
 {
     let mode = words[0];
     let len = words[LENGTH];
@@ -102,23 +132,12 @@ pub fn is_replica(words: &[u64], shards: usize, j: usize) -> bool
     if !may_wait(mode, len, j) {
         return false;
     }
+    if len == 0 {
+        return all_zero(&words[RESERVED..]);
+    }
     if !all_zero(&words[RESERVED..ENTRIES]) {
         return false;
     }
     let end = ENTRIES + (len as usize);
-    if !all_entries(&words[ENTRIES..end], shards) {
-        return false;
-    }
     all_zero(&words[end..])
-}
-
-// Whether the words are those of a member's or of another replica in configuration j.
-pub fn is_part(words: &[u64], shards: usize, j: usize, member: bool) -> bool
-    requires { ⌜ length (now words) ≡ partWords ⌝ }
-    ensures { λ r. ⌜ r ≡ isPart shards j member (now (words .entry)) ⌝ }
-{
-    if member {
-        return is_replica(words, shards, j);
-    }
-    all_zero(words)
 }

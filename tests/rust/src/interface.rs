@@ -1,14 +1,14 @@
-//! The C header's functions over slices, as a trait of both implementations.
+//! The C header's functions over slices, as a trait of the proved, the plain and the tuned implementation.
 //!
-//! Tests compare the two through it: one number as the answer, and everything else in buffers. The benchmark measures
-//! them through it: either side pays one call.
+//! Tests compare them through it: one number as the answer, and everything else in buffers. The benchmark measures
+//! them through it: each side pays one call.
 
 use crate::rejection::{Rejection, number_of};
 use crate::report::{Report, Stop};
 use crate::seat::Seat;
 use crate::step::Step;
 use crate::tally::Tally;
-use crate::{plain, proved::ffi};
+use crate::{plain, proved::ffi, tuned};
 
 pub trait Interface {
     fn state_words(shards: u64) -> u64;
@@ -102,95 +102,110 @@ impl Interface for Proved {
     }
 }
 
-/// The plain implementation.
+/// The plain implementation, and the tuned one.
 pub struct Plain;
+pub struct Tuned;
 
-impl Interface for Plain {
-    #[inline(never)]
-    fn state_words(shards: u64) -> u64 {
-        plain::state_words(shards)
-    }
+/// Either is a module of functions over the same slices.
+macro_rules! interface_of_module {
+    ($side:ident, $module:ident) => {
+        impl Interface for $side {
+            #[inline(never)]
+            fn state_words(shards: u64) -> u64 {
+                $module::state_words(shards)
+            }
 
-    #[inline(never)]
-    fn setup(state: &mut [u64], plan: &[u64]) -> u64 {
-        number_of(&plain::setup(state, plan))
-    }
+            #[inline(never)]
+            fn setup(state: &mut [u64], plan: &[u64]) -> u64 {
+                number_of(&$module::setup(state, plan))
+            }
 
-    #[inline(never)]
-    fn step(state: &mut [u64], step: Step) -> u64 {
-        number_of(&plain::step(state, step))
-    }
+            #[inline(never)]
+            fn step(state: &mut [u64], step: Step) -> u64 {
+                number_of(&$module::step(state, step))
+            }
 
-    #[inline(never)]
-    fn replay(state: &mut [u64], log: &[u8], budget: u64, report: &mut [u64]) -> u64 {
-        let Some(report) = report.first_chunk_mut() else {
-            return Rejection::OutputShort.number();
-        };
-        reported(plain::replay(state, log, budget), report)
-    }
+            #[inline(never)]
+            fn replay(state: &mut [u64], log: &[u8], budget: u64, report: &mut [u64]) -> u64 {
+                let Some(report) = report.first_chunk_mut() else {
+                    return Rejection::OutputShort.number();
+                };
+                reported($module::replay(state, log, budget), report)
+            }
 
-    #[inline(never)]
-    fn replay_tally(
-        state: &mut [u64],
-        log: &[u8],
-        budget: u64,
-        report: &mut [u64],
-        tally: &mut [u64],
-    ) -> u64 {
-        let (Some(report), Some(words)) = (report.first_chunk_mut(), tally.first_chunk_mut())
-        else {
-            return Rejection::OutputShort.number();
-        };
-        let mut tally = Tally::from_words(*words);
-        let replayed = plain::replay_tally(state, log, budget, &mut tally);
-        *words = tally.words();
-        reported(replayed, report)
-    }
+            #[inline(never)]
+            fn replay_tally(
+                state: &mut [u64],
+                log: &[u8],
+                budget: u64,
+                report: &mut [u64],
+                tally: &mut [u64],
+            ) -> u64 {
+                let (Some(report), Some(words)) =
+                    (report.first_chunk_mut(), tally.first_chunk_mut())
+                else {
+                    return Rejection::OutputShort.number();
+                };
+                let mut tally = Tally::from_words(*words);
+                let replayed = $module::replay_tally(state, log, budget, &mut tally);
+                *words = tally.words();
+                reported(replayed, report)
+            }
 
-    #[inline(never)]
-    fn read_step(log: &[u8], at: usize, step: &mut [u64]) -> u64 {
-        let Some(words) = step.first_chunk_mut() else {
-            return Rejection::OutputShort.number();
-        };
-        let read = plain::read_step(log, at);
-        match read {
-            Ok(None) => *words = [0; 6],
-            Ok(Some((step, after))) => *words = step_words(step, after),
-            Err(_) => (),
+            #[inline(never)]
+            fn read_step(log: &[u8], at: usize, step: &mut [u64]) -> u64 {
+                let Some(words) = step.first_chunk_mut() else {
+                    return Rejection::OutputShort.number();
+                };
+                let read = $module::read_step(log, at);
+                match read {
+                    Ok(None) => *words = [0; 6],
+                    Ok(Some((step, after))) => *words = step_words(step, after),
+                    Err(_) => (),
+                }
+                number_of(&read)
+            }
+
+            #[inline(never)]
+            fn write_step(out: &mut [u8], at: usize, step: Step, count: &mut [u64]) -> u64 {
+                counted(count, || $module::write_step(out, at, step))
+            }
+
+            #[inline(never)]
+            fn stable_history(
+                state: &[u64],
+                shard: u64,
+                out: &mut [u64],
+                count: &mut [u64],
+            ) -> u64 {
+                counted(count, || $module::stable_history(state, shard, out))
+            }
+
+            #[inline(never)]
+            fn stable_prefix(state: &[u64], seat: Seat, out: &mut [u64], count: &mut [u64]) -> u64 {
+                counted(count, || $module::stable_prefix(state, seat, out))
+            }
+
+            #[inline(never)]
+            fn trace(state: &[u64], seat: Seat, out: &mut [u64], count: &mut [u64]) -> u64 {
+                counted(count, || $module::trace(state, seat, out))
+            }
+
+            #[inline(never)]
+            fn csv(state: &[u64], out: &mut [u8], count: &mut [u64]) -> u64 {
+                counted(count, || $module::csv(state, out))
+            }
+
+            #[inline(never)]
+            fn transcript(log: &[u8], out: &mut [u8], count: &mut [u64]) -> u64 {
+                counted(count, || $module::transcript(log, out))
+            }
         }
-        number_of(&read)
-    }
-
-    #[inline(never)]
-    fn write_step(out: &mut [u8], at: usize, step: Step, count: &mut [u64]) -> u64 {
-        counted(count, || plain::write_step(out, at, step))
-    }
-
-    #[inline(never)]
-    fn stable_history(state: &[u64], shard: u64, out: &mut [u64], count: &mut [u64]) -> u64 {
-        counted(count, || plain::stable_history(state, shard, out))
-    }
-
-    #[inline(never)]
-    fn stable_prefix(state: &[u64], seat: Seat, out: &mut [u64], count: &mut [u64]) -> u64 {
-        counted(count, || plain::stable_prefix(state, seat, out))
-    }
-
-    #[inline(never)]
-    fn trace(state: &[u64], seat: Seat, out: &mut [u64], count: &mut [u64]) -> u64 {
-        counted(count, || plain::trace(state, seat, out))
-    }
-
-    #[inline(never)]
-    fn csv(state: &[u64], out: &mut [u8], count: &mut [u64]) -> u64 {
-        counted(count, || plain::csv(state, out))
-    }
-
-    #[inline(never)]
-    fn transcript(log: &[u8], out: &mut [u8], count: &mut [u64]) -> u64 {
-        counted(count, || plain::transcript(log, out))
-    }
+    };
 }
+
+interface_of_module!(Plain, plain);
+interface_of_module!(Tuned, tuned);
 
 /// Writes the report of a replay, if it was not rejected; gives the answer.
 fn reported(replayed: Result<Report, Rejection>, report: &mut [u64; 4]) -> u64 {

@@ -1,6 +1,6 @@
 //! Rust beside the proved machine: safe wrappers of it ([`proved`]), an independent implementation of the same
-//! requirements ([`plain`]), a checker of the claims made of every run ([`claims`]), and what the tests and the
-//! benchmark need to compare them ([`interface`], [`testing`]).
+//! requirements ([`plain`]), the same tuned where it is hot ([`tuned`]), a checker of the claims made of every run
+//! ([`claims`]), and what the tests and the benchmark need to compare them ([`interface`], [`testing`]).
 
 pub mod bench;
 pub mod claims;
@@ -13,4 +13,5 @@ pub mod seat;
 pub mod step;
 pub mod tally;
 pub mod testing;
+pub mod tuned;
 pub mod view;

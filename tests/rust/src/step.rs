@@ -1,4 +1,4 @@
-//! A step as both implementations take it.
+//! A step as every implementation takes it.
 
 /// A kind and four numbers, 0 where the kind does not use one. Any values may stand here: steps are judged when tried.
 #[derive(Clone, Copy, Debug, Default, PartialEq, Eq, Hash)]

@@ -3,13 +3,13 @@
 
 use penkwadar_tests::seat::Seat;
 use penkwadar_tests::step::Step;
-use penkwadar_tests::testing::both;
 use penkwadar_tests::testing::catch_ups::CatchUps;
 use penkwadar_tests::testing::random::Random;
 use penkwadar_tests::testing::seats::{all_seats, rejection};
 use penkwadar_tests::testing::settings;
+use penkwadar_tests::testing::sides;
 use penkwadar_tests::testing::states::well_formed;
-use penkwadar_tests::testing::twin::Twin;
+use penkwadar_tests::testing::triplet::Triplet;
 use penkwadar_tests::view::{ACTIVE, PENDING, View};
 
 /// The answer on a well-formed state: "the order is that of inherit", 10, 11, 12, 13, after the range of all numbers.
@@ -47,10 +47,10 @@ fn every_host_and_peer() {
     let (mut answers, mut catch_ups) = ([0u64; 14], CatchUps::default());
     for run in 0..140 {
         let words = well_formed(&mut random, 2 + run % 7);
-        let (view, mut state) = (View::new(&words), Twin::new(&words));
+        let (view, mut state) = (View::new(&words), Triplet::new(&words));
         for (seat, peer) in hosts_and_peers(view, run % 2) {
             let step = Step::catch_up(seat.shard, seat.index, seat.host, peer);
-            let got = both::step(&mut state, step);
+            let got = sides::step(&mut state, step);
             assert_eq!(got, answer(view, seat, peer), "{step:?}");
             answers[got as usize] += 1;
             catch_ups.note(step, got, view);
@@ -69,12 +69,12 @@ fn every_host_and_peer() {
 #[test]
 fn huge_numbers() {
     let mut random = Random::new(settings::seed() + 1);
-    let mut state = Twin::new(&well_formed(&mut random, 2));
+    let mut state = Triplet::new(&well_formed(&mut random, 2));
     for place in 0..4 {
         for huge in [1 << 32, 1 << 63, (1 << 32) + 1, u64::MAX] {
             let mut step = Step::catch_up(0, 1, 0, 1);
             step.numbers[place] = huge;
-            assert_eq!(both::step(&mut state, step), 7, "{step:?}");
+            assert_eq!(sides::step(&mut state, step), 7, "{step:?}");
         }
     }
 }

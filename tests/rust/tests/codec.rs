@@ -1,14 +1,14 @@
 //! Reader and writer on random steps and bytes.
 
 use penkwadar_tests::step::Step;
-use penkwadar_tests::testing::both;
 use penkwadar_tests::testing::logs::{
     KINDS, is_writable, push_number, push_step, used, writable_step,
 };
 use penkwadar_tests::testing::random::Random;
 use penkwadar_tests::testing::settings;
+use penkwadar_tests::testing::sides;
 use penkwadar_tests::testing::steps::{arbitrary, odd_number};
-use penkwadar_tests::testing::twin::Twin;
+use penkwadar_tests::testing::triplet::Triplet;
 
 fn words(step: Step, after: usize) -> [u64; 6] {
     let [a, b, c, d] = step.numbers;
@@ -56,13 +56,13 @@ fn write_and_read_back() {
             _ => random.place(24),
         };
         let count_len = random.weighted(&[2, 90, 8]);
-        let mut out = Twin::filled(length, random.word() as u8);
-        let written = both::write_step(&mut out, at, step, count_len);
+        let mut out = Triplet::filled(length, random.word() as u8);
+        let written = sides::write_step(&mut out, at, step, count_len);
         let room = length.saturating_sub(at);
         assert_eq!(written, expected(step, room, count_len), "{step:?} in {room} bytes");
         answers[written.err().unwrap_or(0) as usize] += 1;
         if let Ok(count) = written {
-            assert_eq!(both::read_step(out.get(), at), Ok(words(step, at + count)), "{step:?}");
+            assert_eq!(sides::read_step(out.get(), at), Ok(words(step, at + count)), "{step:?}");
             note_widths(step, &mut widths);
         }
     }
@@ -105,7 +105,7 @@ fn read_and_write_back() {
             _ => random.place(log.len() + 1),
         };
         let step_len = 6 + random.place(3);
-        let read = both::read_step_into(&log, at, step_len);
+        let read = sides::read_step_into(&log, at, step_len);
         answers[read.err().unwrap_or(0) as usize] += 1;
         assert!(at < log.len() || read == Ok([0; 6]), "no bytes left at {at} of {log:02x?}");
         match read {
@@ -130,19 +130,19 @@ fn short_outputs() {
     push_step(&mut log, Step::wedge(1, 2, 5));
     for step_len in 0..9 {
         for (bytes, rejection) in [(&log[..], 0), (&[], 0), (&[8], 3), (&[0], 4), (&[0x80], 5)] {
-            let read = both::read_step_into(bytes, 0, step_len);
+            let read = sides::read_step_into(bytes, 0, step_len);
             let answer = if step_len < 6 { 8 } else { rejection };
             assert_eq!(read.err().unwrap_or(0), answer, "{bytes:02x?} into {step_len} words");
         }
     }
     // The room is asked for last, the count first.
-    let mut out = Twin::filled(3, 0xee);
+    let mut out = Triplet::filled(3, 0xee);
     for (step, answer) in
         [(Step::wedge(1, 2, 5), 8), (Step::new(9, [0; 4]), 3), (Step::default(), 4)]
     {
-        assert_eq!(both::write_step(&mut out, 0, step, 1), Err(answer), "{step:?}");
-        assert_eq!(both::write_step(&mut out, 0, step, 0), Err(8), "{step:?} without a count");
+        assert_eq!(sides::write_step(&mut out, 0, step, 1), Err(answer), "{step:?}");
+        assert_eq!(sides::write_step(&mut out, 0, step, 0), Err(8), "{step:?} without a count");
     }
-    assert_eq!(both::write_step(&mut out, 0, Step::new(4, [1, 2, 5, 1]), 1), Err(7));
-    assert_eq!(both::write_step(&mut out, 0, Step::wedge(1, 2, 1 << 35), 1), Err(7));
+    assert_eq!(sides::write_step(&mut out, 0, Step::new(4, [1, 2, 5, 1]), 1), Err(7));
+    assert_eq!(sides::write_step(&mut out, 0, Step::wedge(1, 2, 1 << 35), 1), Err(7));
 }

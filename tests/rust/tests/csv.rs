@@ -1,11 +1,11 @@
 //! The text for spreadsheets: what it holds, buffers of any length, states out of form, and the longest text.
 
 use penkwadar_tests::proved::{CSV_BYTES, Rejection, State};
-use penkwadar_tests::testing::both;
 use penkwadar_tests::testing::random::Random;
 use penkwadar_tests::testing::settings;
+use penkwadar_tests::testing::sides;
 use penkwadar_tests::testing::states::{spoil_state, well_formed};
-use penkwadar_tests::testing::twin::Twin;
+use penkwadar_tests::testing::triplet::Triplet;
 use penkwadar_tests::view::{HISTORY, SHARD_WORDS, View, issue};
 
 const HEADER: &str = "zone,place,kind,entry\r\n";
@@ -54,8 +54,8 @@ fn borrowed_states() {
             _ => 0,
         };
         let fill = random.word() as u8;
-        let mut out = Twin::filled(out_len, fill);
-        let written = both::csv(&mut Twin::new(&words), &mut out, count_len);
+        let mut out = Triplet::filled(out_len, fill);
+        let written = sides::csv(&mut Triplet::new(&words), &mut out, count_len);
         assert_eq!(written.err().unwrap_or(0), answer, "{shards} shards, {out_len} bytes");
         answers[answer as usize] += 1;
         if let Ok(length) = written {
@@ -76,16 +76,16 @@ fn borrowed_states() {
 #[test]
 fn states_out_of_form() {
     let mut random = Random::new(settings::seed() + 6);
-    let mut out = Twin::filled(CSV_BYTES, 0xee);
+    let mut out = Triplet::filled(CSV_BYTES, 0xee);
     for length in [0, 1, SHARD_WORDS, 2 * SHARD_WORDS - 1, 2 * SHARD_WORDS + 1, 9 * SHARD_WORDS] {
-        let answer = both::csv(&mut Twin::new(&vec![0; length]), &mut out, 1);
+        let answer = sides::csv(&mut Triplet::new(&vec![0; length]), &mut out, 1);
         assert_eq!(answer, Err(1), "{length} words");
     }
     let words = well_formed(&mut random, 2);
     for place in (0..words.len()).step_by(7) {
-        let mut state = Twin::new(&words);
+        let mut state = Triplet::new(&words);
         state.edit(|words| words[place] = u64::MAX);
-        assert_eq!(both::csv(&mut state, &mut out, 1), Err(9), "word {place}");
+        assert_eq!(sides::csv(&mut state, &mut out, 1), Err(9), "word {place}");
     }
     assert!(out.get().iter().all(|&byte| byte == 0xee));
 }
@@ -98,7 +98,8 @@ fn empty_lists() {
         let state = State::setup(&plan).expect("a good plan");
         assert_eq!(state.csv().as_deref(), Ok(HEADER.as_bytes()));
         for room in 0..30 {
-            let written = both::csv(&mut Twin::new(state.words()), &mut Twin::filled(room, 7), 1);
+            let written =
+                sides::csv(&mut Triplet::new(state.words()), &mut Triplet::filled(room, 7), 1);
             assert_eq!(written, if room < 23 { Err(8) } else { Ok(23) }, "{room} bytes of room");
         }
     }
@@ -112,8 +113,8 @@ fn longest_text() {
         let text = expected(&words, shards);
         let length = text.len();
         assert_eq!(length as u64, 23 + 1_278 * shards);
-        let mut out = Twin::filled(length, 0xee);
-        assert_eq!(both::csv(&mut Twin::new(&words), &mut out, 1), Ok(length));
+        let mut out = Triplet::filled(length, 0xee);
+        assert_eq!(sides::csv(&mut Triplet::new(&words), &mut out, 1), Ok(length));
         assert!(out.get() == text.as_bytes());
         let mut short = vec![0xee; length - 1];
         assert_eq!(State::from_words(words).csv_into(&mut short), Err(Rejection::OutputShort));

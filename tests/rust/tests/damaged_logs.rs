@@ -3,9 +3,9 @@
 use std::collections::BTreeSet;
 
 use penkwadar_tests::step::Step;
-use penkwadar_tests::testing::both::{self, Replayed};
 use penkwadar_tests::testing::logs::{push_number, push_step, used};
-use penkwadar_tests::testing::twin::Twin;
+use penkwadar_tests::testing::sides::{self, Replayed};
+use penkwadar_tests::testing::triplet::Triplet;
 use penkwadar_tests::view::{SHARD_WORDS, issue};
 
 /// The program's plan.
@@ -42,26 +42,26 @@ fn log() -> (Vec<u8>, Vec<usize>) {
     (log, starts)
 }
 
-fn fresh_state() -> Twin<u64> {
-    let mut state = Twin::filled(2 * SHARD_WORDS, 0);
-    assert_eq!(both::setup(&mut state, &PLAN), 0);
+fn fresh_state() -> Triplet<u64> {
+    let mut state = Triplet::filled(2 * SHARD_WORDS, 0);
+    assert_eq!(sides::setup(&mut state, &PLAN), 0);
     state
 }
 
 /// Replays without and with a tally, which do the same.
-fn replay(log: &[u8], budget: u64) -> (Replayed, Twin<u64>) {
+fn replay(log: &[u8], budget: u64) -> (Replayed, Triplet<u64>) {
     let (mut state, mut told) = (fresh_state(), fresh_state());
-    let replayed = both::replay(&mut state, log, budget);
-    let tallied = both::replay_tally(&mut told, log, budget);
+    let replayed = sides::replay(&mut state, log, budget);
+    let tallied = sides::replay_tally(&mut told, log, budget);
     assert_eq!(tallied.replayed, replayed, "{log:02x?} with a tally");
     assert!(told.get() == state.get(), "state of {log:02x?} with a tally");
     (replayed, state)
 }
 
 /// The state after so many whole steps, and how many of them were rejected.
-fn after_steps(count: usize) -> (Twin<u64>, u64) {
+fn after_steps(count: usize) -> (Triplet<u64>, u64) {
     let mut state = fresh_state();
-    let answers = steps().into_iter().take(count).map(|step| both::step(&mut state, step));
+    let answers = steps().into_iter().take(count).map(|step| sides::step(&mut state, step));
     let rejected = answers.filter(|&answer| answer != 0).count();
     (state, rejected as u64)
 }
@@ -80,7 +80,7 @@ fn assert_stop(bytes: &[u8], whole: usize, at: usize, damage: u64) {
     let spent = Replayed { answer: 0, report: report(u64::from(damage != 0)) };
     assert_eq!(replayed, spent, "{bytes:02x?} with budget {whole}");
     assert!(state.get() == expected.get(), "effects before the budget's end in {bytes:02x?}");
-    match both::read_step(bytes, at) {
+    match sides::read_step(bytes, at) {
         Ok(words) => assert_eq!((words, damage), ([0; 6], 0), "read at {at} of {bytes:02x?}"),
         Err(answer) => assert_eq!(answer, damage, "read at {at} of {bytes:02x?}"),
     }
@@ -170,7 +170,7 @@ fn kinds_that_are_none() {
     assert!(met[3] > 100 && met[4] > 100, "{met:?}");
 }
 
-/// Every byte takes every value: whatever it becomes, both sides say the same.
+/// Every byte takes every value: whatever it becomes, all sides say the same.
 #[test]
 fn every_value_of_every_byte() {
     let (log, _) = log();
@@ -182,7 +182,7 @@ fn every_value_of_every_byte() {
             answers[replay(&changed, u64::MAX).0.answer as usize] += 1;
             for at in place.saturating_sub(5)..=place {
                 // Compared inside; the answer depends on what lies there.
-                let _ = both::read_step(&changed, at);
+                let _ = sides::read_step(&changed, at);
             }
         }
     }
@@ -214,10 +214,10 @@ fn edges_of_document_01() {
         (&[0], 4),
     ];
     for (bytes, answer) in expected {
-        assert_eq!(both::read_step(bytes, 0), Err(answer), "{bytes:02x?}");
+        assert_eq!(sides::read_step(bytes, 0), Err(answer), "{bytes:02x?}");
         assert_stop(bytes, 0, 0, answer);
     }
-    assert_eq!(both::read_step(&[4, 1, 2, 5], 0), Ok([4, 1, 2, 5, 0, 4]));
-    assert_eq!(both::read_step(&[1, 0, 1, 0xac, 2], 0), Ok([1, 0, 1, 300, 0, 5]));
-    assert_eq!(both::read_step(&[7, 1, 2, 5, 3], 0), Ok([7, 1, 2, 5, 3, 5]));
+    assert_eq!(sides::read_step(&[4, 1, 2, 5], 0), Ok([4, 1, 2, 5, 0, 4]));
+    assert_eq!(sides::read_step(&[1, 0, 1, 0xac, 2], 0), Ok([1, 0, 1, 300, 0, 5]));
+    assert_eq!(sides::read_step(&[7, 1, 2, 5, 3], 0), Ok([7, 1, 2, 5, 3, 5]));
 }

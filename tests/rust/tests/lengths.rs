@@ -5,9 +5,9 @@ use penkwadar_tests::proved::TRACE_HOSTS;
 use penkwadar_tests::rejection::Rejection;
 use penkwadar_tests::seat::Seat;
 use penkwadar_tests::step::Step;
-use penkwadar_tests::testing::both;
 use penkwadar_tests::testing::logs::push_step;
-use penkwadar_tests::testing::twin::Twin;
+use penkwadar_tests::testing::sides;
+use penkwadar_tests::testing::triplet::Triplet;
 use penkwadar_tests::view::SHARD_WORDS;
 
 /// The lengths of states of 2 to 8 shards, written out.
@@ -43,40 +43,40 @@ fn add(shard: u64, take: u64) -> Step {
 }
 
 /// What the calls answer that take the number of a shard: step, stable_history, stable_prefix, trace.
-fn shard_answers(state: &mut Twin<u64>, shard: u64) -> [u64; 4] {
-    let mut out = Twin::filled(TRACE_HOSTS, UNWRITTEN);
+fn shard_answers(state: &mut Triplet<u64>, shard: u64) -> [u64; 4] {
+    let mut out = Triplet::filled(TRACE_HOSTS, UNWRITTEN);
     let seat = Seat { shard, index: 1, host: 0 };
-    let added = both::step(state, add(shard, 1));
+    let added = sides::step(state, add(shard, 1));
     let read = [
-        both::stable_history(state, shard, &mut out, 1),
-        both::stable_prefix(state, seat, &mut out, 1),
-        both::trace(state, seat, &mut out, 1),
+        sides::stable_history(state, shard, &mut out, 1),
+        sides::stable_prefix(state, seat, &mut out, 1),
+        sides::trace(state, seat, &mut out, 1),
     ];
     let [history, prefix, trace] = read.map(|answer| answer.err().unwrap_or(ACCEPTED));
     [added, history, prefix, trace]
 }
 
 /// What the others answer, but for setup: replay without and with a tally, csv.
-fn state_answers(state: &mut Twin<u64>) -> [u64; 3] {
-    let mut text = Twin::filled(HEADER_BYTES, UNWRITTEN_BYTE);
-    let replayed = both::replay(state, &[], 0).answer;
-    let tallied = both::replay_tally(state, &[], 0).replayed.answer;
-    [replayed, tallied, both::csv(state, &mut text, 1).err().unwrap_or(ACCEPTED)]
+fn state_answers(state: &mut Triplet<u64>) -> [u64; 3] {
+    let mut text = Triplet::filled(HEADER_BYTES, UNWRITTEN_BYTE);
+    let replayed = sides::replay(state, &[], 0).answer;
+    let tallied = sides::replay_tally(state, &[], 0).replayed.answer;
+    [replayed, tallied, sides::csv(state, &mut text, 1).err().unwrap_or(ACCEPTED)]
 }
 
 /// Replays a step of the last shard and one of a shard more; gives how many it tried and rejected.
-fn replay_last_and_more(state: &mut Twin<u64>, shards: u64) -> [u64; 2] {
+fn replay_last_and_more(state: &mut Triplet<u64>, shards: u64) -> [u64; 2] {
     let mut log = Vec::new();
     push_step(&mut log, add(shards - 1, 2));
     push_step(&mut log, add(shards, 2));
-    let [_, tried, rejected, _] = both::replay(state, &log, u64::MAX).report.expect("a report");
+    let [_, tried, rejected, _] = sides::replay(state, &log, u64::MAX).report.expect("a report");
     [tried, rejected]
 }
 
 /// Makes every call on states of these lengths, the longest first; gives how many of them are among the seven. All
 /// calls are rejected, so that the words of all states can stand in one buffer.
 fn try_lengths(lengths: &[usize]) -> usize {
-    let mut state = Twin::filled(lengths[0], UNWRITTEN);
+    let mut state = Triplet::filled(lengths[0], UNWRITTEN);
     // Plans as long as those for no shards and for nine.
     let plans = [plan(0), plan(TOO_MANY)];
     let mut among = 0;
@@ -87,7 +87,7 @@ fn try_lengths(lengths: &[usize]) -> usize {
             false => (LENGTH, LENGTH),
         };
         for plan in &plans {
-            assert_eq!(both::setup(&mut state, plan), of_setup, "setup on {length} words");
+            assert_eq!(sides::setup(&mut state, plan), of_setup, "setup on {length} words");
         }
         assert_eq!(shard_answers(&mut state, 0), [of_others; 4], "{length} words");
         assert_eq!(state_answers(&mut state), [of_others; 3], "{length} words");
@@ -115,11 +115,11 @@ fn low_bits_alike() {
 #[test]
 fn shards_of_each_length() {
     for (shards, length) in (FEWEST..).zip(LENGTHS) {
-        let mut state = Twin::filled(length, UNWRITTEN);
+        let mut state = Triplet::filled(length, UNWRITTEN);
         for other in (0..=TOO_MANY).filter(|&other| other != shards) {
-            assert_eq!(both::setup(&mut state, &plan(other)), PLAN, "{other} of {shards} shards");
+            assert_eq!(sides::setup(&mut state, &plan(other)), PLAN, "{other} of {shards} shards");
         }
-        assert_eq!(both::setup(&mut state, &plan(shards)), ACCEPTED, "{shards} shards");
+        assert_eq!(sides::setup(&mut state, &plan(shards)), ACCEPTED, "{shards} shards");
         assert_eq!(shard_answers(&mut state, shards - 1), [ACCEPTED; 4], "{shards} shards");
         assert_eq!(shard_answers(&mut state, shards), [RANGE; 4], "{shards} shards");
         assert_eq!(state_answers(&mut state), [ACCEPTED; 3], "{shards} shards");
@@ -133,6 +133,6 @@ fn words_of_each_count() {
     for shards in 0..=20 {
         let length = (FEWEST..).zip(LENGTHS).find(|&(count, _)| count == shards);
         let words = length.map_or(0, |(_, words)| words as u64);
-        assert_eq!(both::state_words(shards), words, "{shards} shards");
+        assert_eq!(sides::state_words(shards), words, "{shards} shards");
     }
 }

@@ -3,11 +3,11 @@
 use std::collections::BTreeMap;
 
 use penkwadar_tests::seat::Seat;
-use penkwadar_tests::testing::both;
 use penkwadar_tests::testing::random::Random;
 use penkwadar_tests::testing::settings;
+use penkwadar_tests::testing::sides;
 use penkwadar_tests::testing::states::well_formed;
-use penkwadar_tests::testing::twin::Twin;
+use penkwadar_tests::testing::triplet::Triplet;
 use penkwadar_tests::view::{PENDING, SHARD_WORDS, View};
 
 /// What an origin is in its place.
@@ -92,10 +92,10 @@ fn all_places(shards: u64) -> impl Iterator<Item = (u64, u64, usize, usize)> {
 }
 
 /// Whether a replay and a trace find a state well-formed.
-fn is_well_formed(state: &mut Twin<u64>) -> bool {
+fn is_well_formed(state: &mut Triplet<u64>) -> bool {
     let seat = Seat { shard: 0, index: 1, host: 0 };
-    let traced = both::trace(state, seat, &mut Twin::filled(7, 5), 1);
-    let replayed = both::replay(state, &[], 0);
+    let traced = sides::trace(state, seat, &mut Triplet::filled(7, 5), 1);
+    let replayed = sides::replay(state, &[], 0);
     assert_eq!(traced == Err(9), replayed.answer == 9, "trace and replay see one form");
     replayed.answer != 9
 }
@@ -107,7 +107,7 @@ fn every_value_in_every_replica() {
     for run in 0..14 {
         let words = well_formed(&mut random, 2 + run % 7);
         let view = View::new(&words);
-        let mut state = Twin::new(&words);
+        let mut state = Triplet::new(&words);
         for (shard, index, number, place) in all_places(view.shards()) {
             for word in values() {
                 state.edit(|words| words[place + 3] = word);
@@ -128,7 +128,7 @@ fn every_value_in_every_replica() {
 fn reserved_words() {
     let mut random = Random::new(settings::seed() + 1);
     for shards in 2..=8 {
-        let mut state = Twin::new(&well_formed(&mut random, shards));
+        let mut state = Triplet::new(&well_formed(&mut random, shards));
         for (.., place) in all_places(shards) {
             for place in place + 4..place + 8 {
                 for word in [1, 2, 16, 1 << 32, 1 << 63, u64::MAX] {
@@ -162,7 +162,7 @@ fn lose_each(seed: u64, lose: impl Fn(&mut [u64], Seat, usize) -> bool) {
             let seat = Seat { shard, index, host: replica.host };
             let mut changed = words.clone();
             if lose(&mut changed, seat, place) {
-                let kept = is_well_formed(&mut Twin::new(&changed));
+                let kept = is_well_formed(&mut Triplet::new(&changed));
                 assert_eq!(kept, !is_named(view, seat), "{seat:?}");
                 found[usize::from(kept)] += 1;
             }

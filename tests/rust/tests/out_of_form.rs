@@ -2,12 +2,12 @@
 
 use penkwadar_tests::seat::Seat;
 use penkwadar_tests::step::Step;
-use penkwadar_tests::testing::both;
 use penkwadar_tests::testing::plans::plan;
 use penkwadar_tests::testing::random::Random;
 use penkwadar_tests::testing::settings;
+use penkwadar_tests::testing::sides;
 use penkwadar_tests::testing::states::well_formed;
-use penkwadar_tests::testing::twin::Twin;
+use penkwadar_tests::testing::triplet::Triplet;
 use penkwadar_tests::view::{SHARD_WORDS, issue};
 
 /// One step of each kind, in range whatever the state is.
@@ -36,19 +36,19 @@ struct Found {
 
 impl Found {
     /// Tries every kind of step, both replays and a trace on a state; all of them find it well-formed, or none.
-    fn try_all(&mut self, state: &mut Twin<u64>, contents: &[u64]) -> bool {
-        let replayed = both::replay(state, &LOG, u64::MAX);
+    fn try_all(&mut self, state: &mut Triplet<u64>, contents: &[u64]) -> bool {
+        let replayed = sides::replay(state, &LOG, u64::MAX);
         let rejected = replayed.answer == 9;
         restore(state, contents, !rejected);
-        let tallied = both::replay_tally(state, &LOG, u64::MAX);
+        let tallied = sides::replay_tally(state, &LOG, u64::MAX);
         assert_eq!(tallied.replayed, replayed, "with and without a tally");
         restore(state, contents, !rejected);
         for step in STEPS {
-            let answer = both::step(state, step);
+            let answer = sides::step(state, step);
             assert_eq!(answer == 9, rejected, "{step:?} and replay see one form");
             restore(state, contents, answer == 0);
         }
-        let traced = both::trace(state, SEAT, &mut Twin::filled(7, 5), 1);
+        let traced = sides::trace(state, SEAT, &mut Triplet::filled(7, 5), 1);
         assert_eq!(traced == Err(9), rejected, "trace and replay see one form");
         match rejected {
             true => self.not += 1,
@@ -58,7 +58,7 @@ impl Found {
     }
 }
 
-fn restore(state: &mut Twin<u64>, contents: &[u64], changed: bool) {
+fn restore(state: &mut Triplet<u64>, contents: &[u64], changed: bool) {
     if changed {
         state.edit(|words| words.copy_from_slice(contents));
     }
@@ -67,7 +67,7 @@ fn restore(state: &mut Twin<u64>, contents: &[u64], changed: bool) {
 /// Every word of a state in turn holds each of many values.
 fn every_word(words: &[u64]) {
     let mut found = Found::default();
-    let mut state = Twin::new(words);
+    let mut state = Triplet::new(words);
     let mut contents = words.to_vec();
     for (place, &old) in words.iter().enumerate() {
         for value in values(old) {
@@ -112,9 +112,9 @@ fn issues(old: u64) -> Vec<u64> {
 #[test]
 fn every_word_after_setup() {
     let mut random = Random::new(settings::seed());
-    let mut state = Twin::filled(2 * SHARD_WORDS, 0);
+    let mut state = Triplet::filled(2 * SHARD_WORDS, 0);
     let plan = plan(&mut random, 2);
-    assert_eq!(both::setup(&mut state, &plan), 0);
+    assert_eq!(sides::setup(&mut state, &plan), 0);
     every_word(state.get());
 }
 
@@ -140,7 +140,7 @@ fn random_words() {
                     false => random.any_width(),
                 };
             }
-            found.try_all(&mut Twin::new(&contents), &contents);
+            found.try_all(&mut Triplet::new(&contents), &contents);
         }
     }
     assert!(found.not > 1_000 && found.well_formed > 20, "{} and {}", found.not, found.well_formed);
@@ -170,8 +170,8 @@ fn every_assignment_of_sequencers() {
                 number /= values;
                 sequencers.push(block[0]);
             }
-            let mut state = Twin::new(&contents);
-            let rejected = both::replay(&mut state, &[], 0).answer == 9;
+            let mut state = Triplet::new(&contents);
+            let rejected = sides::replay(&mut state, &[], 0).answer == 9;
             assert_ne!(rejected, are_sequencers(&sequencers), "{sequencers:?}");
         }
     }
@@ -196,15 +196,15 @@ fn wrong_lengths() {
     for length in lengths {
         let mut contents = well_formed.clone();
         contents.resize(length, 0);
-        let mut state = Twin::new(&contents);
+        let mut state = Triplet::new(&contents);
         for step in STEPS.into_iter().chain([Step::default(), Step::new(8, [u64::MAX; 4])]) {
-            assert_eq!(both::step(&mut state, step), 1, "{step:?} on {length} words");
+            assert_eq!(sides::step(&mut state, step), 1, "{step:?} on {length} words");
         }
-        let replayed = both::replay(&mut state, &LOG, 1);
+        let replayed = sides::replay(&mut state, &LOG, 1);
         assert_eq!(replayed.answer, 1, "replay on {length} words");
-        let tallied = both::replay_tally(&mut state, &LOG, 1);
+        let tallied = sides::replay_tally(&mut state, &LOG, 1);
         assert_eq!(tallied.replayed, replayed, "replay with a tally on {length} words");
-        let traced = both::trace(&mut state, SEAT, &mut Twin::filled(7, 5), 1);
+        let traced = sides::trace(&mut state, SEAT, &mut Triplet::filled(7, 5), 1);
         assert_eq!(traced, Err(1), "trace on {length} words");
     }
 }
@@ -212,7 +212,7 @@ fn wrong_lengths() {
 /// What is asked first: length, kind, range, form.
 #[test]
 fn order_of_rejections() {
-    let mut state = Twin::filled(2 * SHARD_WORDS, 0);
+    let mut state = Triplet::filled(2 * SHARD_WORDS, 0);
     let expected = [
         (Step::new(8, [9; 4]), 3),
         (Step::new(31, [9; 4]), 3),
@@ -228,6 +228,6 @@ fn order_of_rejections() {
         (Step::add(0, 1, 7), 9),
     ];
     for (step, answer) in expected {
-        assert_eq!(both::step(&mut state, step), answer, "{step:?}");
+        assert_eq!(sides::step(&mut state, step), answer, "{step:?}");
     }
 }

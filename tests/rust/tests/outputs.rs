@@ -3,15 +3,15 @@
 use penkwadar_tests::plain;
 use penkwadar_tests::step::Step;
 use penkwadar_tests::testing::any_log::any_log;
-use penkwadar_tests::testing::both;
 use penkwadar_tests::testing::logs::{push_step, spoil};
 use penkwadar_tests::testing::random::Random;
 use penkwadar_tests::testing::seats::{any_seat, rejection};
 use penkwadar_tests::testing::settings;
+use penkwadar_tests::testing::sides;
 use penkwadar_tests::testing::states::{spoil_state, well_formed};
 use penkwadar_tests::testing::steps::odd_number;
 use penkwadar_tests::testing::temper::Temper;
-use penkwadar_tests::testing::twin::Twin;
+use penkwadar_tests::testing::triplet::Triplet;
 use penkwadar_tests::view::{SHARD_WORDS, View};
 
 #[test]
@@ -39,8 +39,8 @@ fn stable_histories() {
             _ if expected.len() > out_len => 8,
             _ => 0,
         };
-        let mut out = Twin::filled(out_len, random.word());
-        let copied = both::stable_history(&mut Twin::new(&words), shard, &mut out, count_len);
+        let mut out = Triplet::filled(out_len, random.word());
+        let copied = sides::stable_history(&mut Triplet::new(&words), shard, &mut out, count_len);
         assert_eq!(copied.err().unwrap_or(0), answer, "shard {shard} of {shards}");
         answers[answer as usize] += 1;
         if let Ok(count) = copied {
@@ -82,8 +82,8 @@ fn stable_prefixes() {
             Some(stable) if stable.len() > out_len => 8,
             _ => rejected,
         };
-        let mut out = Twin::filled(out_len, random.word());
-        let copied = both::stable_prefix(&mut Twin::new(&words), seat, &mut out, count_len);
+        let mut out = Triplet::filled(out_len, random.word());
+        let copied = sides::stable_prefix(&mut Triplet::new(&words), seat, &mut out, count_len);
         assert_eq!(copied.err().unwrap_or(0), answer, "{seat:?} of {shards}");
         answers[answer as usize] += 1;
         if let Ok(count) = copied {
@@ -112,8 +112,8 @@ fn transcripts() {
     let (mut ended, mut damaged) = (0, 0);
     for _ in 0..300 {
         let log = program_log(&mut random);
-        let mut out = Twin::filled(50_000, 0xee);
-        let length = both::transcript(&log, &mut out, 1).expect("room for any text");
+        let mut out = Triplet::filled(50_000, 0xee);
+        let length = sides::transcript(&log, &mut out, 1).expect("room for any text");
         let text = out.get()[..length].to_vec();
         let last = text.strip_suffix(b"\n").expect("a last newline");
         let last = last.rsplit(|&byte| byte == b'\n').next().expect("a last line");
@@ -126,8 +126,12 @@ fn transcripts() {
             (random.place(length), 1, Err(8)),
             (50_000, 0, Err(8)),
         ] {
-            let mut out = Twin::filled(room, random.word() as u8);
-            assert_eq!(both::transcript(&log, &mut out, count_len), answer, "{room} bytes of room");
+            let mut out = Triplet::filled(room, random.word() as u8);
+            assert_eq!(
+                sides::transcript(&log, &mut out, count_len),
+                answer,
+                "{room} bytes of room"
+            );
             assert!(answer.is_err() || out.get()[..length] == text);
         }
     }
@@ -142,14 +146,14 @@ fn longest_logs() {
     while log.len() < 16_384 {
         push_step(&mut log, Step::wedge(0, 1, 0));
     }
-    let mut out = Twin::filled(50_000, 0xee);
-    let length = both::transcript(&log, &mut out, 1).expect("room for any text");
+    let mut out = Triplet::filled(50_000, 0xee);
+    let length = sides::transcript(&log, &mut out, 1).expect("room for any text");
     let text = &out.get()[..length];
     assert!(text.ends_with(b"\n4096 4 12\nzone 0\nzone 1\nended 4096 4095 16384\n"));
     log.push(0);
     for room in 0..12 {
-        let mut out = Twin::filled(room, 0xee);
-        let answer = both::transcript(&log, &mut out, 1);
+        let mut out = Triplet::filled(room, 0xee);
+        let answer = sides::transcript(&log, &mut out, 1);
         assert_eq!(answer, if room < 9 { Err(8) } else { Ok(9) }, "{room} bytes of room");
         assert!(answer.is_err() || out.get().starts_with(b"too long\n"));
     }
@@ -170,8 +174,8 @@ fn longest_text() {
     while log.len() + 4 <= 16_384 {
         push_step(&mut log, Step::wedge(0, 2, 0));
     }
-    let mut out = Twin::filled(plain::TEXT_BYTES, 0xee);
-    let length = both::transcript(&log, &mut out, 1).expect("room for any text");
+    let mut out = Triplet::filled(plain::TEXT_BYTES, 0xee);
+    let length = sides::transcript(&log, &mut out, 1).expect("room for any text");
     let text = String::from_utf8(out.get()[..length].to_vec()).expect("text");
     let zones = text.lines().filter(|line| line.starts_with("zone") && line.len() == 6 + 56 * 11);
     assert_eq!(zones.count(), 2);
@@ -186,12 +190,12 @@ fn short_reports() {
     out_of_form[1] = 9;
     for report_len in 0..8 {
         for (words, rejection) in [(&good[..], 0), (&out_of_form[..], 9), (&good[1..], 1)] {
-            let replayed = both::replay_into(&mut Twin::new(words), &[], 0, report_len);
+            let replayed = sides::replay_into(&mut Triplet::new(words), &[], 0, report_len);
             let answer = if report_len < 4 { 8 } else { rejection };
             assert_eq!(replayed.answer, answer, "report of {report_len} words");
             assert_eq!(replayed.report, (answer == 0).then_some([0; 4]));
         }
-        let damaged = both::replay_into(&mut Twin::new(&good), &[8], 1, report_len);
+        let damaged = sides::replay_into(&mut Triplet::new(&good), &[8], 1, report_len);
         assert_eq!(damaged.answer, if report_len < 4 { 8 } else { 3 });
     }
 }
@@ -214,8 +218,8 @@ fn budgets() {
         (&damaged, 3, 4, [2, 2, 8]),
     ];
     for (log, budget, answer, [stop, tried, bytes]) in cases {
-        let replayed = both::replay(&mut Twin::new(&good), log, budget);
-        let tallied = both::replay_tally(&mut Twin::new(&good), log, budget);
+        let replayed = sides::replay(&mut Triplet::new(&good), log, budget);
+        let tallied = sides::replay_tally(&mut Triplet::new(&good), log, budget);
         assert_eq!(tallied.replayed, replayed, "with a tally: {log:?} with {budget}");
         let report = replayed.report.expect("a report");
         assert_eq!(replayed.answer, answer, "{log:?} with {budget}");

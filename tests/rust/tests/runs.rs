@@ -1,4 +1,4 @@
-//! Random runs from setup: plain against proved, call by call, with the claims of every moment.
+//! Random runs from setup: plain, tuned and proved, call by call, with the claims of every moment.
 
 use penkwadar_tests::testing::coverage::{Coverage, NEVER_FROM_SETUP};
 use penkwadar_tests::testing::driver::Driver;

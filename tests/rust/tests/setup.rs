@@ -1,11 +1,11 @@
 //! Setup on random plans, good and bad.
 
-use penkwadar_tests::testing::both;
 use penkwadar_tests::testing::plans::{hosts, plan};
 use penkwadar_tests::testing::random::Random;
 use penkwadar_tests::testing::settings;
+use penkwadar_tests::testing::sides;
 use penkwadar_tests::testing::steps::odd_number;
-use penkwadar_tests::testing::twin::Twin;
+use penkwadar_tests::testing::triplet::Triplet;
 use penkwadar_tests::view::{ACTIVE, SHARD_WORDS};
 
 /// Whether a plan is good, from the sentence in document 01.
@@ -46,8 +46,8 @@ fn random_plans() {
         for _ in 0..random.below(3) {
             disturb(&mut random, &mut plan);
         }
-        let mut state = Twin::filled(shards * SHARD_WORDS, random.word());
-        let answer = both::setup(&mut state, &plan);
+        let mut state = Triplet::filled(shards * SHARD_WORDS, random.word());
+        let answer = sides::setup(&mut state, &plan);
         match is_good(&plan, shards) {
             true => {
                 assert_eq!(answer, 0, "{plan:?}");
@@ -86,9 +86,9 @@ fn wrong_lengths() {
     let mut random = Random::new(settings::seed() + 1);
     let plan = plan(&mut random, 2);
     for length in [0, 1, 2_111, 2_112, 2_113, 4_223, 4_225, 16_895, 16_897, 9 * 2_112] {
-        let mut state = Twin::filled(length, 5);
+        let mut state = Triplet::filled(length, 5);
         for plan in [&plan[..], &plan[..5], &[]] {
-            assert_eq!(both::setup(&mut state, plan), 1, "{length} words");
+            assert_eq!(sides::setup(&mut state, plan), 1, "{length} words");
         }
     }
 }
@@ -98,11 +98,11 @@ fn wrong_lengths() {
 fn plans_of_another_length() {
     let mut random = Random::new(settings::seed() + 2);
     for shards in 2..=8 {
-        let mut state = Twin::filled(shards as usize * SHARD_WORDS, 5);
+        let mut state = Triplet::filled(shards as usize * SHARD_WORDS, 5);
         for other in 2..=9 {
             let plan = plan(&mut random, other);
             let answer = if other == shards { 0 } else { 2 };
-            assert_eq!(both::setup(&mut state, &plan), answer, "{other} lines, {shards} shards");
+            assert_eq!(sides::setup(&mut state, &plan), answer, "{other} lines, {shards} shards");
         }
     }
 }
@@ -111,10 +111,10 @@ fn plans_of_another_length() {
 fn lengths_of_states() {
     for shards in 0..20 {
         let words = if (2..=8).contains(&shards) { shards * 2_112 } else { 0 };
-        assert_eq!(both::state_words(shards), words);
+        assert_eq!(sides::state_words(shards), words);
     }
     // Numbers whose products wrap.
     for shards in [1 << 32, 1 << 63, u64::MAX, u64::MAX / 2_112 + 3, (1 << 59) + 2] {
-        assert_eq!(both::state_words(shards), 0);
+        assert_eq!(sides::state_words(shards), 0);
     }
 }

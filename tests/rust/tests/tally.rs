@@ -4,17 +4,17 @@
 use penkwadar_tests::step::Step;
 use penkwadar_tests::tally::TALLY_WORDS;
 use penkwadar_tests::testing::any_log::any_log;
-use penkwadar_tests::testing::both::{self, Replayed, Tallied};
 use penkwadar_tests::testing::coverage::NEVER_FROM_SETUP;
 use penkwadar_tests::testing::logs::{KINDS, push_step, spoil, used};
 use penkwadar_tests::testing::plans::plan;
 use penkwadar_tests::testing::random::Random;
 use penkwadar_tests::testing::script::Script;
 use penkwadar_tests::testing::settings;
+use penkwadar_tests::testing::sides::{self, Replayed, Tallied};
 use penkwadar_tests::testing::states::{spoil_state, well_formed};
 use penkwadar_tests::testing::tallies::{Met, NONE};
 use penkwadar_tests::testing::temper::Temper;
-use penkwadar_tests::testing::twin::Twin;
+use penkwadar_tests::testing::triplet::Triplet;
 use penkwadar_tests::view::{SHARD_WORDS, issue};
 
 /// A tally of no rejections.
@@ -42,7 +42,7 @@ fn tally_of(counts: &[(usize, u64)]) -> [u64; TALLY_WORDS] {
 }
 
 /// Replays of random logs one after the other, some of them spoiled, some with a low budget.
-fn random_replays(random: &mut Random, met: &mut Met, state: &mut Twin<u64>, count: u64) {
+fn random_replays(random: &mut Random, met: &mut Met, state: &mut Triplet<u64>, count: u64) {
     let temper = Temper::any(random);
     for _ in 0..count {
         let steps = random.below(80);
@@ -61,8 +61,8 @@ fn runs_from_setup() {
     for run in 0..250 {
         let mut random = Random::of_run(settings::seed(), run);
         let shards = 2 + run % 7;
-        let mut state = Twin::filled(shards as usize * SHARD_WORDS, random.word());
-        assert_eq!(both::setup(&mut state, &plan(&mut random, shards)), 0);
+        let mut state = Triplet::filled(shards as usize * SHARD_WORDS, random.word());
+        assert_eq!(sides::setup(&mut state, &plan(&mut random, shards)), 0);
         random_replays(&mut random, &mut met, &mut state, 20);
     }
     println!("{met}");
@@ -75,7 +75,7 @@ fn borrowed_states() {
     let mut met = Met::default();
     for run in 0..1_500 {
         let mut random = Random::of_run(settings::seed() + 1, run);
-        let mut state = Twin::new(&well_formed(&mut random, 2 + run % 7));
+        let mut state = Triplet::new(&well_formed(&mut random, 2 + run % 7));
         random_replays(&mut random, &mut met, &mut state, 3);
     }
     println!("{met}");
@@ -93,7 +93,7 @@ fn every_host_of_every_kind() {
         let mut steps = every_step(shards);
         random.shuffle(&mut steps);
         for steps in steps.chunks(20) {
-            met.replay(&mut Twin::new(&words), &log_of(steps), u64::MAX);
+            met.replay(&mut Triplet::new(&words), &log_of(steps), u64::MAX);
         }
     }
     println!("{met}");
@@ -157,8 +157,8 @@ fn steps_by_hand() {
     ];
     let words = Script::begin().words;
     for (step, answer, word) in cases {
-        assert_eq!(both::step(&mut Twin::new(&words), step), answer, "{step:?}");
-        let tallied = both::replay_tally(&mut Twin::new(&words), &log_of(&[step]), 1);
+        assert_eq!(sides::step(&mut Triplet::new(&words), step), answer, "{step:?}");
+        let tallied = sides::replay_tally(&mut Triplet::new(&words), &log_of(&[step]), 1);
         assert_eq!(tallied.tally, Some(tally_of(&[(word, 1)])), "{step:?}");
     }
 }
@@ -168,10 +168,10 @@ fn steps_by_hand() {
 #[test]
 fn orderers_of_two_indices() {
     let steps = [Step::wedge(0, 1, 0), Step::add(1, 1, 5)];
-    let mut state = Twin::new(&Script::installed(&steps, &[4, 6]).words);
+    let mut state = Triplet::new(&Script::installed(&steps, &[4, 6]).words);
     let adds = [Step::add(0, 1, 7), Step::add(0, 2, 7), Step::add(0, 2, 8), Step::add(1, 1, 5)];
     let log = log_of(&adds);
-    let tallied = both::replay_tally(&mut state, &log, u64::MAX);
+    let tallied = sides::replay_tally(&mut state, &log, u64::MAX);
     let report = Some([0, 4, 4, log.len() as u64]);
     assert_eq!(tallied.replayed, Replayed { answer: 0, report });
     assert_eq!(tallied.tally, Some(tally_of(&[(0, 1), (4, 2), (2, 1)])));
@@ -182,8 +182,8 @@ fn orderers_of_two_indices() {
 fn many_rejections() {
     const TIMES: u64 = 70_000;
     let log = log_of(&[Step::wedge(0, 1, 5), Step::add(0, 8, 7)]).repeat(TIMES as usize);
-    let mut state = Twin::new(&Script::begin().words);
-    let tallied = both::replay_tally(&mut state, &log, u64::MAX);
+    let mut state = Triplet::new(&Script::begin().words);
+    let tallied = sides::replay_tally(&mut state, &log, u64::MAX);
     assert_eq!(tallied.tally, Some(tally_of(&[(5, TIMES), (NONE, TIMES)])));
 }
 
@@ -202,8 +202,8 @@ fn nothing_tried() {
         (&wedge[..3], 1, 5, 2),
     ];
     for (log, budget, answer, stop) in cases {
-        let mut state = Twin::new(&Script::begin().words);
-        let tallied = both::replay_tally(&mut state, log, budget);
+        let mut state = Triplet::new(&Script::begin().words);
+        let tallied = sides::replay_tally(&mut state, log, budget);
         let replayed = Replayed { answer, report: Some([stop, 0, 0, 0]) };
         let expected = Tallied { replayed, tally: Some(ZEROS) };
         assert_eq!(tallied, expected, "{log:?} with budget {budget}");
@@ -226,11 +226,11 @@ fn short_outputs() {
         (&out_of_form, &rejected, 9),
     ];
     for (words, log, answer) in calls {
-        let enough = both::replay_tally(&mut Twin::new(words), log, u64::MAX);
+        let enough = sides::replay_tally(&mut Triplet::new(words), log, u64::MAX);
         assert_eq!(enough.replayed.answer, answer, "{log:?}");
         for lengths in (0..=6).flat_map(|report| (0..=20).map(move |tally| [report, tally])) {
-            let mut state = Twin::new(words);
-            let tallied = both::replay_tally_into(&mut state, log, u64::MAX, lengths);
+            let mut state = Triplet::new(words);
+            let tallied = sides::replay_tally_into(&mut state, log, u64::MAX, lengths);
             let expected = if are_short(lengths) { SHORT } else { enough };
             assert_eq!(tallied, expected, "{log:?} with outputs of {lengths:?} words");
         }
@@ -249,14 +249,14 @@ fn any_calls() {
         spoil(&mut random, &mut log);
         let lengths = [2 + random.place(8), 15 + random.place(20)];
         let out_of_form = spoil_state(&mut random, &mut words);
-        let tallied = both::replay_tally_into(&mut Twin::new(&words), &log, u64::MAX, lengths);
+        let tallied = sides::replay_tally_into(&mut Triplet::new(&words), &log, u64::MAX, lengths);
         let rejected = match () {
             _ if are_short(lengths) => Some(8),
             _ if !words.len().is_multiple_of(SHARD_WORDS) => Some(1),
             _ if out_of_form => Some(9),
             _ => None,
         };
-        let Replayed { answer, .. } = both::replay(&mut Twin::new(&words), &log, u64::MAX);
+        let Replayed { answer, .. } = sides::replay(&mut Triplet::new(&words), &log, u64::MAX);
         assert_eq!(tallied.replayed.answer, rejected.unwrap_or(answer), "{lengths:?} words");
         assert_eq!(tallied.tally.is_none(), rejected.is_some(), "{lengths:?} words");
         answers[tallied.replayed.answer as usize] += 1;

@@ -5,15 +5,15 @@ use penkwadar_tests::plain;
 use penkwadar_tests::proved::TRACE_HOSTS;
 use penkwadar_tests::seat::Seat;
 use penkwadar_tests::step::Step;
-use penkwadar_tests::testing::both;
 use penkwadar_tests::testing::plans::plan;
 use penkwadar_tests::testing::random::Random;
 use penkwadar_tests::testing::seats::{all_seats, any_seat, assert_trace, rejection};
 use penkwadar_tests::testing::settings;
+use penkwadar_tests::testing::sides;
 use penkwadar_tests::testing::states::{spoil_state, well_formed};
 use penkwadar_tests::testing::steps::any_step;
 use penkwadar_tests::testing::temper::Temper;
-use penkwadar_tests::testing::twin::Twin;
+use penkwadar_tests::testing::triplet::Triplet;
 use penkwadar_tests::view::{PENDING, Replica, SHARD_WORDS, View};
 
 /// What an output holds before a call.
@@ -30,9 +30,9 @@ struct Met {
 
 impl Met {
     /// Traces a seat of a well-formed state. Gives its hosts, where it has a replica.
-    fn trace(&mut self, state: &mut Twin<u64>, seat: Seat) -> Option<Vec<u64>> {
-        let mut out = Twin::filled(TRACE_HOSTS + 2, UNWRITTEN);
-        let traced = both::trace(state, seat, &mut out, 1);
+    fn trace(&mut self, state: &mut Triplet<u64>, seat: Seat) -> Option<Vec<u64>> {
+        let mut out = Triplet::filled(TRACE_HOSTS + 2, UNWRITTEN);
+        let traced = sides::trace(state, seat, &mut out, 1);
         let view = View::new(state.get());
         assert_eq!(traced.err().unwrap_or(0), rejection(view, seat), "{seat:?}");
         self.answers[traced.err().unwrap_or(0) as usize] += 1;
@@ -48,7 +48,7 @@ impl Met {
     }
 
     /// A replica that just caught up has the trace of its peer.
-    fn compare(&mut self, state: &mut Twin<u64>, catch_up: Step) {
+    fn compare(&mut self, state: &mut Triplet<u64>, catch_up: Step) {
         let [shard, index, host, peer] = catch_up.numbers;
         let [heir, peer] = [host, peer].map(|host| Seat { shard, index, host });
         assert_eq!(self.trace(state, heir), self.trace(state, peer), "{catch_up:?}");
@@ -75,13 +75,13 @@ fn runs_from_setup() {
 
 fn one_run(random: &mut Random, met: &mut Met) {
     let shards = random.within(2..=3);
-    let mut state = Twin::filled(shards as usize * SHARD_WORDS, random.word());
-    assert_eq!(both::setup(&mut state, &plan(random, shards)), 0);
+    let mut state = Triplet::filled(shards as usize * SHARD_WORDS, random.word());
+    assert_eq!(sides::setup(&mut state, &plan(random, shards)), 0);
     let mut claims = Claims::after_setup(state.get()).expect("the claims after setup");
     let temper = Temper::any(random);
     for moment in 1..=1_000 {
         let step = any_step(random, View::new(state.get()), &temper);
-        let answer = both::step(&mut state, step);
+        let answer = sides::step(&mut state, step);
         assert_eq!(claims.after_step(step, answer, state.get()), Ok(()));
         if step.is_catch_up() && answer == 0 {
             met.compare(&mut state, step);
@@ -103,7 +103,7 @@ fn borrowed_states() {
     let mut met = Met::default();
     for run in 0..70 {
         let shards = 2 + run % 7;
-        let mut state = Twin::new(&well_formed(&mut random, shards));
+        let mut state = Triplet::new(&well_formed(&mut random, shards));
         for seat in (0..=shards).flat_map(all_seats) {
             met.trace(&mut state, seat);
         }
@@ -120,8 +120,8 @@ fn every_catch_up() {
     for run in 0..560 {
         let words = well_formed(&mut random, 2 + run % 7);
         for step in catch_ups(View::new(&words), run % 2) {
-            let mut state = Twin::new(&words);
-            assert_eq!(both::step(&mut state, step), 0, "{step:?}");
+            let mut state = Triplet::new(&words);
+            assert_eq!(sides::step(&mut state, step), 0, "{step:?}");
             met.compare(&mut state, step);
         }
     }
@@ -160,8 +160,8 @@ fn any_calls() {
             _ if out_of_form => 9,
             _ => rejected,
         };
-        let mut out = Twin::filled(out_len, random.word());
-        let traced = both::trace(&mut Twin::new(&words), seat, &mut out, count_len);
+        let mut out = Triplet::filled(out_len, random.word());
+        let traced = sides::trace(&mut Triplet::new(&words), seat, &mut out, count_len);
         assert_eq!(traced.err().unwrap_or(0), answer, "{seat:?} of {shards}");
         answers[answer as usize] += 1;
         if let Ok(count) = traced {
@@ -189,8 +189,8 @@ fn short_outputs() {
     ];
     for (out_len, count_len) in (0..=9).flat_map(|out_len| (0..=2).map(move |n| (out_len, n))) {
         for (words, seat, answer) in calls {
-            let mut out = Twin::filled(out_len, UNWRITTEN);
-            let traced = both::trace(&mut Twin::new(words), seat, &mut out, count_len);
+            let mut out = Triplet::filled(out_len, UNWRITTEN);
+            let traced = sides::trace(&mut Triplet::new(words), seat, &mut out, count_len);
             let answer = if out_len < 7 || count_len < 1 { 8 } else { answer };
             assert_eq!(traced.err().unwrap_or(0), answer, "{out_len} and {count_len} words");
             assert!(out.get().iter().all(|&word| word == UNWRITTEN), "index 1 has no trace");
@@ -206,9 +206,9 @@ fn order_of_rejections() {
     assert_eq!(plain::setup(&mut words, &plan), Ok(()));
     let zeros = vec![0; words.len()];
     let answer = |words: &[u64], [shard, index, host]: [u64; 3], out_len| {
-        let mut out = Twin::filled(out_len, UNWRITTEN);
+        let mut out = Triplet::filled(out_len, UNWRITTEN);
         let seat = Seat { shard, index, host };
-        both::trace(&mut Twin::new(words), seat, &mut out, 1).err().unwrap_or(0)
+        sides::trace(&mut Triplet::new(words), seat, &mut out, 1).err().unwrap_or(0)
     };
     assert_eq!(answer(&zeros[1..], [2, 0, 16], 6), 8);
     assert_eq!(answer(&zeros[1..], [2, 0, 16], 7), 1);
@@ -231,16 +231,16 @@ fn order_of_rejections() {
 #[test]
 fn states_out_of_form() {
     let mut random = Random::new(settings::seed() + 4);
-    let mut out = Twin::filled(TRACE_HOSTS, UNWRITTEN);
+    let mut out = Triplet::filled(TRACE_HOSTS, UNWRITTEN);
     let seat = Seat { shard: 1, index: 1, host: 0 };
     for length in [0, 1, SHARD_WORDS, 2 * SHARD_WORDS - 1, 2 * SHARD_WORDS + 1, 9 * SHARD_WORDS] {
-        let answer = both::trace(&mut Twin::new(&vec![0; length]), seat, &mut out, 1);
+        let answer = sides::trace(&mut Triplet::new(&vec![0; length]), seat, &mut out, 1);
         assert_eq!(answer, Err(1), "{length} words");
     }
     let words = well_formed(&mut random, 2);
     for place in 0..words.len() {
-        let mut state = Twin::new(&words);
+        let mut state = Triplet::new(&words);
         state.edit(|words| words[place] = u64::MAX);
-        assert_eq!(both::trace(&mut state, seat, &mut out, 1), Err(9), "word {place}");
+        assert_eq!(sides::trace(&mut state, seat, &mut out, 1), Err(9), "word {place}");
     }
 }

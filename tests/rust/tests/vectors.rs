@@ -1,4 +1,4 @@
-//! The vectors, on both implementations.
+//! The vectors, on all implementations.
 
 use penkwadar_tests::interface::{Interface, Plain, Proved};
 use penkwadar_tests::testing::length_vectors::{

@@ -7,7 +7,6 @@ use std::collections::BTreeMap;
 use penkwadar_tests::plain;
 use penkwadar_tests::seat::Seat;
 use penkwadar_tests::step::Step;
-use penkwadar_tests::testing::both;
 use penkwadar_tests::testing::coverage::ANSWERS;
 use penkwadar_tests::testing::next::write_next;
 use penkwadar_tests::testing::plans::{configuration, plan};
@@ -15,10 +14,11 @@ use penkwadar_tests::testing::random::Random;
 use penkwadar_tests::testing::script::{INSTALL, PLAN};
 use penkwadar_tests::testing::seats::{all_seats, rejection};
 use penkwadar_tests::testing::settings;
+use penkwadar_tests::testing::sides;
 use penkwadar_tests::testing::states::well_formed;
 use penkwadar_tests::testing::steps::any_step;
 use penkwadar_tests::testing::temper::Temper;
-use penkwadar_tests::testing::twin::Twin;
+use penkwadar_tests::testing::triplet::Triplet;
 use penkwadar_tests::view::{
     ACTIVE, HISTORY, IMMUTABLE, PENDING, SHARD_WORDS, View, issue, issued_for,
 };
@@ -116,10 +116,10 @@ fn every_host_and_place() {
         let (shards, shard) = (2 + run % 7, run % 2);
         let mut words = well_formed(&mut random, shards);
         issue_often(&mut random, &mut words, shard);
-        let (view, mut state) = (View::new(&words), Twin::new(&words));
+        let (view, mut state) = (View::new(&words), Triplet::new(&words));
         for (seat, place) in seats_and_places(view, shard) {
             let step = Step::install(shard, seat.index, seat.host, place);
-            let got = both::step(&mut state, step);
+            let got = sides::step(&mut state, step);
             assert_eq!(got, answer(view, shard, seat, place), "{step:?}");
             met.note(view, shard, got);
             if got == 0 {
@@ -148,9 +148,9 @@ fn every_mode() {
         for number in 0..kinds.pow(size) {
             let mode = |place| least + number / kinds.pow(place) % kinds;
             let modes: Vec<u64> = (0..size).map(mode).collect();
-            let mut state = Twin::new(&words);
+            let mut state = Triplet::new(&words);
             state.edit(|words| write_modes(words, newest, &modes));
-            let answer = both::step(&mut state, Step::install(0, 1, 0, 0));
+            let answer = sides::step(&mut state, Step::install(0, 1, 0, 0));
             assert_eq!(answer, if modes.contains(&IMMUTABLE) { 0 } else { 24 }, "{modes:?}");
             *met.entry(answer).or_insert(0) += 1;
         }
@@ -194,12 +194,12 @@ fn every_heir_has_a_source() {
     for run in 0..100 {
         let random = &mut Random::of_run(settings::seed(), run);
         let shards = random.within(2..=3);
-        let mut state = Twin::filled(shards as usize * SHARD_WORDS, random.word());
-        assert_eq!(both::setup(&mut state, &plan(random, shards)), 0);
+        let mut state = Triplet::filled(shards as usize * SHARD_WORDS, random.word());
+        assert_eq!(sides::setup(&mut state, &plan(random, shards)), 0);
         let temper = Temper::any(random);
         for _ in 0..600 {
             let step = any_step(random, View::new(state.get()), &temper);
-            if both::step(&mut state, step) == 0 {
+            if sides::step(&mut state, step) == 0 {
                 assert_sources(state.get(), step.numbers[0], &mut heirs);
             }
         }
@@ -214,7 +214,7 @@ fn assert_sources(words: &[u64], shard: u64, heirs: &mut [u64; 9]) {
     for heir in view.all_replicas(shard).filter(|replica| replica.mode() == PENDING) {
         let is_source = |host| {
             let inherit = Step::inherit(shard, heir.index, heir.host, host);
-            both::step(&mut Twin::new(words), inherit) == 0
+            sides::step(&mut Triplet::new(words), inherit) == 0
         };
         let before = view.replicas(shard, heir.index - 1);
         let (wedged, others): (Vec<_>, Vec<_>) = before.partition(|old| old.mode() == IMMUTABLE);
@@ -226,15 +226,15 @@ fn assert_sources(words: &[u64], shard: u64, heirs: &mut [u64; 9]) {
 }
 
 /// The state after setup: shard 0 has hosts 0 and 1, shard 1 has hosts 2 and 3.
-fn after_setup() -> Twin<u64> {
-    let mut state = Twin::filled(2 * SHARD_WORDS, 0);
-    assert_eq!(both::setup(&mut state, &PLAN), 0);
+fn after_setup() -> Triplet<u64> {
+    let mut state = Triplet::filled(2 * SHARD_WORDS, 0);
+    assert_eq!(sides::setup(&mut state, &PLAN), 0);
     state
 }
 
-fn play(state: &mut Twin<u64>, steps: &[(Step, u64)]) {
+fn play(state: &mut Triplet<u64>, steps: &[(Step, u64)]) {
     for (number, &(step, answer)) in (1..).zip(steps) {
-        assert_eq!(both::step(state, step), answer, "step {number}, {step:?}");
+        assert_eq!(sides::step(state, step), answer, "step {number}, {step:?}");
     }
 }
 

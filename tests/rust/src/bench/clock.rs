@@ -2,7 +2,7 @@
 
 use std::time::{Duration, Instant};
 
-use crate::interface::{Interface, Plain, Proved};
+use crate::interface::{Interface, Plain, Proved, Tuned};
 
 /// How long one case is measured, and in how many rounds at least.
 const TIME: Duration = Duration::from_millis(1_000);
@@ -23,12 +23,12 @@ pub trait Case {
     fn units(&self) -> usize;
 }
 
-/// The least nanoseconds a unit: proved, plain.
-pub fn measure<C: Case>(case: &mut C) -> [f64; 2] {
-    measure_sides(case, [C::run::<Proved>, C::run::<Plain>])
+/// The least nanoseconds a unit: proved, plain, tuned.
+pub fn measure<C: Case>(case: &mut C) -> [f64; 3] {
+    measure_sides(case, [C::run::<Proved>, C::run::<Plain>, C::run::<Tuned>])
 }
 
-/// The least nanoseconds a unit of each side. The first two sides have to give the same.
+/// The least nanoseconds a unit of each side. The first three sides have to give the same.
 pub fn measure_sides<C: Case, const N: usize>(
     case: &mut C,
     sides: [fn(&mut C) -> u64; N],
@@ -48,6 +48,7 @@ pub fn measure_sides<C: Case, const N: usize>(
             least[side] = least[side].min(time);
         }
         assert_eq!(given[0], given[1], "proved and plain give the same");
+        assert_eq!(given[0], given[2], "proved and tuned give the same");
         round += 1;
     }
     least

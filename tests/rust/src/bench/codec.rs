@@ -3,7 +3,7 @@
 use std::hint::black_box;
 
 use super::clock::{Case, measure};
-use super::table::{Table, ns, ratio};
+use super::table::{SIDES, Table, sides};
 use crate::interface::Interface;
 use crate::step::Step;
 use crate::testing::logs::{KINDS, push_step, writable_step};
@@ -93,18 +93,15 @@ pub fn tables() -> Vec<Table> {
     let mut table = Table::new(
         "## Reading and writing steps\n\nA fresh log of 4,000 random steps each round, in ns a step. Mixed: numbers of \
          one to five bytes; as in runs: only entries are long.",
-        &["what", "numbers", "proved", "plain", "proved/plain"],
+        &[&["what", "numbers"], &SIDES[..]].concat(),
     );
     let sources: [(&str, Source); 2] = [("mixed", writable_step), ("as in runs", run_step)];
     for (name, source) in sources {
         let mut reads = Reads { random: Random::new(3), source, log: Vec::new() };
         let mut writes =
             Writes { random: Random::new(4), source, steps: Vec::new(), out: vec![0; STEPS * 25] };
-        for (what, [proved, plain]) in
-            [("read", measure(&mut reads)), ("write", measure(&mut writes))]
-        {
-            let times = [ns(proved), ns(plain), ratio(proved, plain)];
-            table.row(&[&[what.to_string(), name.to_string()][..], &times].concat());
+        for (what, times) in [("read", measure(&mut reads)), ("write", measure(&mut writes))] {
+            table.row(&[&[what.to_string(), name.to_string()][..], &sides(times)].concat());
         }
     }
     vec![table]

@@ -4,7 +4,7 @@ use std::hint::black_box;
 
 use super::clock::{Case, measure};
 use super::states::full;
-use super::table::{Table, ns, ratio};
+use super::table::{SIDES, Table, sides};
 use crate::interface::{Interface, Plain};
 use crate::proved::CSV_BYTES;
 use crate::testing::random::Random;
@@ -44,7 +44,7 @@ pub fn tables() -> Vec<Table> {
     let mut table = Table::new(
         "## Texts for spreadsheets\n\nThe text of a state whose stable histories are full, 56 rows a shard, in ns. The \
          whole check of the state is part of it: all replicas are full, four a configuration.",
-        &["entries", "configurations", "Z", "proved", "plain", "proved/plain"],
+        &[&["entries", "configurations", "Z"], &SIDES[..]].concat(),
     );
     let mut random = Random::new(7);
     for shards in [2, 8] {
@@ -57,15 +57,8 @@ pub fn tables() -> Vec<Table> {
             let words = stable(&mut random, shards, configurations, issues);
             let mut case = Csv { words, out: vec![0; CSV_BYTES] };
             assert!(case.run::<Plain>() > 1_000 * shards, "a text of full lists");
-            let [proved, plain] = measure(&mut case);
-            table.row(&[
-                name.to_string(),
-                configurations.to_string(),
-                shards.to_string(),
-                ns(proved),
-                ns(plain),
-                ratio(proved, plain),
-            ]);
+            let state = [name.to_string(), configurations.to_string(), shards.to_string()];
+            table.row(&[&state[..], &sides(measure(&mut case))].concat());
         }
     }
     vec![table]

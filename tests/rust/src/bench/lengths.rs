@@ -3,7 +3,7 @@
 use std::hint::black_box;
 
 use super::clock::{Case, measure};
-use super::table::{Table, ns, ratio};
+use super::table::{SIDES, Table, sides};
 use crate::interface::{Interface, Plain};
 use crate::plain;
 use crate::rejection::Rejection;
@@ -81,7 +81,7 @@ pub fn tables() -> Vec<Table> {
     let mut table = Table::new(
         "## Lengths\n\nSteps that are rejected before a word of the state is read: for the number of the shard (7), or \
          for the length of the state (1); 4,000 calls on lengths drawn afresh each round, in ns a call.",
-        &["lengths", "answer", "proved", "plain", "proved/plain"],
+        &[&["lengths", "answer"], &SIDES[..]].concat(),
     );
     let sources: [(&str, Source, Rejection); 4] = [
         ("2 shards", |_| of_shards(FEWEST), Rejection::Range),
@@ -90,8 +90,7 @@ pub fn tables() -> Vec<Table> {
         ("any that no state has", any_other, Rejection::StateLength),
     ];
     for (name, source, answer) in sources {
-        let [proved, plain] = measure(&mut Lengths::new(source, answer));
-        let times = [ns(proved), ns(plain), ratio(proved, plain)];
+        let times = sides(measure(&mut Lengths::new(source, answer)));
         table.row(&[&[name.to_string(), answer.number().to_string()][..], &times].concat());
     }
     vec![table]

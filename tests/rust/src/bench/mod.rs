@@ -1,4 +1,4 @@
-//! Proved against plain: what is measured, and how.
+//! Proved against plain and tuned Rust: what is measured, and how.
 
 mod check;
 mod clock;
@@ -43,10 +43,10 @@ pub fn run(names: &[String]) {
 }
 
 const INTRODUCTION: &str = "\
-# Proved against plain
+# Proved against plain and tuned Rust
 
-`proved` is the static library, `plain` the Rust implementation in `src/plain`; both run in one process, and either is
-called through one function with the same slices. Each number is the least over many rounds. In a round both sides get
-the same input in the same buffers, restored before each turn, and they take turns in going first. Rust is compiled for
-baseline x86-64.
+`proved` is the static library, `plain` the Rust implementation in `src/plain`, `tuned` the one in `src/tuned`; all run in
+one process, and each is called through one function with the same slices. Each number is the least over many rounds. In
+a round all sides get the same input in the same buffers, restored before each turn, and they take turns in going first.
+Rust is compiled for baseline x86-64.
 ";

@@ -4,7 +4,7 @@ use std::hint::black_box;
 
 use super::clock::{Case, measure};
 use super::states::{after_setup, pairs, plan};
-use super::table::{Table, ns, ratio};
+use super::table::{SIDES, Table, ns, sides};
 use crate::interface::Interface;
 use crate::plain;
 use crate::tally::TALLY_WORDS;
@@ -141,42 +141,32 @@ impl Replays {
 
 /// The cells of a row.
 fn cells(replays: &mut Replays) -> Vec<String> {
-    let [proved, plain] = measure(replays);
-    let each = |time: f64| ns(time / replays.steps.max(1) as f64);
-    vec![
+    let times = measure(replays);
+    let log = [
         View::new(&replays.words).shards().to_string(),
         replays.steps.to_string(),
         replays.log.rejected.to_string(),
-        ns(proved),
-        ns(plain),
-        each(proved),
-        each(plain),
-        ratio(proved, plain),
-    ]
+    ];
+    let each = ns(times[0] / replays.steps.max(1) as f64);
+    [&log[..], &sides(times), &[each]].concat()
 }
 
-const COLUMNS: [&str; 8] = [
-    "Z",
-    "steps",
-    "rejected (last)",
-    "proved",
-    "plain",
-    "proved a step",
-    "plain a step",
-    "proved/plain",
-];
+/// The columns of a row of replays.
+fn columns() -> Vec<&'static str> {
+    [&["Z", "steps", "rejected (last)"], &SIDES[..], &["proved a step"]].concat()
+}
 
 pub fn tables() -> Vec<Table> {
     let mut lengths = Table::new(
         "## Replays by length\n\nA fresh mixed log each round, on a state after setup, in ns for the whole replay \
          (check and steps) and a step.",
-        &COLUMNS,
+        &columns(),
     );
     for steps in [0, 1, 10, 100, 1_000, 10_000] {
         lengths.row(&cells(&mut Replays::new(2, steps)));
     }
     let mut shards =
-        Table::new("## Replays by number of shards\n\nThe same with 1,000 steps.", &COLUMNS);
+        Table::new("## Replays by number of shards\n\nThe same with 1,000 steps.", &columns());
     for count in 2..=8 {
         shards.row(&cells(&mut Replays::new(count, 1_000)));
     }
@@ -187,7 +177,7 @@ fn changing() -> Table {
     let mut table = Table::new(
         "## Replays with catch-ups\n\nLogs in which configurations follow each other quickly, and replicas catch up as often as \
          they inherit; those above have next to no catch-ups.",
-        &[&COLUMNS[..], &["caught up (last)"]].concat(),
+        &[&columns()[..], &["caught up (last)"]].concat(),
     );
     for (shards, steps) in [(2, 100), (2, 1_000), (8, 1_000), (8, 10_000)] {
         let mut replays = Replays::of_temper(&CHANGING, shards, steps);
@@ -202,13 +192,13 @@ fn same_logs() -> Table {
     let mut table = Table::new(
         "## The same logs by number of shards\n\n1,000 mixed steps made for two shards, fresh each round, replayed on states \
          whose first two shards are those; ns a step, without the check.",
-        &["Z", "proved a step", "plain a step", "proved/plain"],
+        &[&["Z"], &SIDES[..]].concat(),
     );
     for shards in [2, 4, 6, 8] {
         let mut steps = [0, 1_000].map(|steps| measure(&mut Replays::of_two(shards, steps)));
         let [none, all] = &mut steps;
-        let [proved, plain] = [0, 1].map(|side| (all[side] - none[side]) / 1_000.0);
-        table.row(&[shards.to_string(), ns(proved), ns(plain), ratio(proved, plain)]);
+        let each = [0, 1, 2].map(|side| (all[side] - none[side]) / 1_000.0);
+        table.row(&[&[shards.to_string()][..], &sides(each)].concat());
     }
     table
 }

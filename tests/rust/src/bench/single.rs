@@ -4,7 +4,7 @@ use super::clock::{Case, measure};
 use super::installs;
 use super::states::{full, installed};
 use super::steps::{AsLog, Steps};
-use super::table::{Table, ns, ratio};
+use super::table::{SIDES, Table, sides};
 use crate::step::Step;
 use crate::testing::random::Random;
 use crate::view::{ACTIVE, IMMUTABLE, PENDING, SHARD_WORDS, issue};
@@ -125,24 +125,22 @@ pub fn tables() -> Vec<Table> {
     let mut single = Table::new(
         "## Single steps\n\nSteps called one by one, each with the whole check of its state, in ns a step. All are accepted \
          but for those with the number of a rejection.",
-        &["step", "Z", "proved", "plain", "proved/plain"],
+        &[&["step", "Z"], &SIDES[..]].concat(),
     );
     for shards in [2, 8] {
         for (name, mut steps) in cases(shards).into_iter().chain(single_cases(shards)) {
-            let [proved, plain] = measure(&mut steps);
-            let times = [ns(proved), ns(plain), ratio(proved, plain)];
+            let times = sides(measure(&mut steps));
             single.row(&[&[name.to_string(), shards.to_string()][..], &times].concat());
         }
     }
     let mut as_log = Table::new(
         "## The same steps as one log\n\nReplays of these steps at Z = 2, in ns a step: reading, the step, and a share \
          of one check.",
-        &["step", "steps", "proved", "plain", "proved/plain"],
+        &[&["step", "steps"], &SIDES[..]].concat(),
     );
     for (name, steps) in cases(2).into_iter().chain(log_cases(2)) {
         let mut log = AsLog::new(steps);
-        let [proved, plain] = measure(&mut log);
-        let times = [ns(proved), ns(plain), ratio(proved, plain)];
+        let times = sides(measure(&mut log));
         as_log.row(&[&[name.to_string(), log.units().to_string()][..], &times].concat());
     }
     vec![single, as_log]

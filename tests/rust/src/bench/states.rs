@@ -55,6 +55,31 @@ pub fn full(random: &mut Random, shards: u64, issues: u64) -> Vec<u64> {
     words
 }
 
+/// The same with histories that differ from replica to replica in every entry.
+pub fn differing(random: &mut Random, shards: u64, issues: u64) -> Vec<u64> {
+    let mut words = full(random, shards, issues);
+    for replica in replicas(&mut words) {
+        replica[8..].fill_with(|| entry(random, shards, issues));
+    }
+    words
+}
+
+/// The same with histories alike as far as they go, each five entries longer than that of the replica before.
+pub fn lagging(random: &mut Random, shards: u64, issues: u64) -> Vec<u64> {
+    let mut words = full(random, shards, issues);
+    for (number, replica) in replicas(&mut words).enumerate() {
+        let length = HISTORY - 5 * (3 - number % 4);
+        replica[1] = length as u64;
+        replica[8 + length..].fill(0);
+    }
+    words
+}
+
+/// All replicas of all configurations.
+fn replicas(words: &mut [u64]) -> impl Iterator<Item = &mut [u64]> {
+    words.chunks_exact_mut(SHARD_WORDS).flat_map(|block| block[64..].chunks_exact_mut(64))
+}
+
 fn entry(random: &mut Random, shards: u64, issues: u64) -> u64 {
     if !random.chance(issues) {
         return random.within(1..=u64::from(u32::MAX));

@@ -34,6 +34,13 @@ pub fn ns(time: f64) -> String {
     }
 }
 
+/// The columns of three sides, and what they hold.
+pub const SIDES: [&str; 5] = ["proved", "plain", "tuned", "proved/plain", "proved/tuned"];
+
+pub fn sides([proved, plain, tuned]: [f64; 3]) -> [String; 5] {
+    [ns(proved), ns(plain), ns(tuned), ratio(proved, plain), ratio(proved, tuned)]
+}
+
 pub fn ratio(time: f64, to: f64) -> String {
     format!("{:.2}", time / to)
 }

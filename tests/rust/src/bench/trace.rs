@@ -4,7 +4,7 @@ use std::hint::black_box;
 
 use super::clock::{Case, measure};
 use super::states::{full, installed};
-use super::table::{Table, ns, ratio};
+use super::table::{SIDES, Table, sides};
 use crate::interface::{Interface, Plain};
 use crate::proved::TRACE_HOSTS;
 use crate::seat::Seat;
@@ -45,7 +45,7 @@ pub fn tables() -> Vec<Table> {
     let mut table = Table::new(
         "## Traces\n\nFrom index 8 back to index 1, seven hosts, in ns a trace. The whole check of the state is part \
          of it: 8 configurations of 4 replicas, with no or with 56 entries each.",
-        &["histories", "Z", "proved", "plain", "proved/plain"],
+        &[&["histories", "Z"], &SIDES[..]].concat(),
     );
     let mut random = Random::new(8);
     for shards in [2, 8] {
@@ -54,8 +54,7 @@ pub fn tables() -> Vec<Table> {
         for (name, words) in states {
             let mut traces = Traces { words, shard: shards - 1 };
             assert_eq!(traces.length(), 7, "hosts of a trace");
-            let [proved, plain] = measure(&mut traces);
-            let times = [ns(proved), ns(plain), ratio(proved, plain)];
+            let times = sides(measure(&mut traces));
             table.row(&[&[name.to_string(), shards.to_string()][..], &times].concat());
         }
     }

@@ -3,7 +3,7 @@
 use std::hint::black_box;
 
 use super::clock::{Case, measure};
-use super::table::{Table, ns, ratio};
+use super::table::{SIDES, Table, sides};
 use crate::interface::Interface;
 use crate::plain;
 use crate::step::Step;
@@ -46,7 +46,7 @@ impl Case for Transcripts {
 pub fn tables() -> Vec<Table> {
     let mut table = Table::new(
         "## Transcripts\n\nThe program's whole text for a fresh log each round, in ns.",
-        &["steps", "proved", "plain", "proved/plain"],
+        &[&["steps"], &SIDES[..]].concat(),
     );
     for steps in [0, 100, 3_500] {
         let mut case = Transcripts {
@@ -55,8 +55,7 @@ pub fn tables() -> Vec<Table> {
             log: Vec::new(),
             out: vec![0; plain::TEXT_BYTES],
         };
-        let [proved, plain] = measure(&mut case);
-        table.row(&[steps.to_string(), ns(proved), ns(plain), ratio(proved, plain)]);
+        table.row(&[&[steps.to_string()][..], &sides(measure(&mut case))].concat());
     }
     vec![table]
 }

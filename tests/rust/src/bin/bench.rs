@@ -1,5 +1,5 @@
-//! `cargo run --release --bin bench`: the proved machine against the plain implementation. Names of parts as arguments
-//! (check, steps, codec, replays, tally, transcripts, csv, trace, lengths) measure only those.
+//! `cargo run --release --bin bench`: the proved machine against the plain and the tuned implementation. Names of
+//! parts as arguments (check, steps, codec, replays, tally, transcripts, csv, trace, lengths) measure only those.
 
 fn main() {
     let names: Vec<String> = std::env::args().skip(1).collect();

@@ -19,7 +19,7 @@ impl State<'_> {
         append(&mut replicas_mut(&mut self.shards[shard])[at], entry)
     }
 
-    fn is_sequencer(&self, shard: usize, issue: &Issue) -> bool {
+    pub(crate) fn is_sequencer(&self, shard: usize, issue: &Issue) -> bool {
         self.shards[issue.shard() as usize][SEQUENCER] == shard as u64
     }
 }

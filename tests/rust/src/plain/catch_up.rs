@@ -6,7 +6,7 @@ use crate::rejection::Rejection;
 impl State<'_> {
     /// The pending replica takes over history, stable length and origin of a peer, a replica of the same configuration
     /// that is not pending.
-    pub(super) fn catch_up(
+    pub(crate) fn catch_up(
         &mut self,
         shard: usize,
         index: u64,

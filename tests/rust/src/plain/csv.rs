@@ -24,7 +24,7 @@ pub fn csv(words: &[u64], out: &mut [u8]) -> Result<usize, Rejection> {
     Ok(writer.length())
 }
 
-fn tell(shards: &[Shard], text: &mut impl Text) {
+pub(crate) fn tell(shards: &[Shard], text: &mut impl Text) {
     text.bytes(b"zone,place,kind,entry\r\n");
     for (number, shard) in (0..).zip(shards) {
         for (place, &entry) in (0..).zip(longest_stable(shard)) {

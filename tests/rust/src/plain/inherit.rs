@@ -5,7 +5,7 @@ use crate::rejection::Rejection;
 
 impl State<'_> {
     /// The pending replica takes over the history of an immutable one of the configuration before.
-    pub(super) fn inherit(
+    pub(crate) fn inherit(
         &mut self,
         shard: usize,
         index: u64,

@@ -7,7 +7,7 @@ use crate::rejection::Rejection;
 impl State<'_> {
     /// The issue at a place of a replica of the shard's sequencer becomes the next configuration of the shard, whose
     /// newest one is wedged.
-    pub(super) fn install(
+    pub(crate) fn install(
         &mut self,
         shard: usize,
         index: u64,

@@ -5,7 +5,7 @@ use crate::rejection::Rejection;
 
 impl State<'_> {
     /// The host learns that the first `length` entries are persistent: all replicas of the configuration have them.
-    pub(super) fn learn(
+    pub(crate) fn learn(
         &mut self,
         shard: usize,
         index: u64,

@@ -13,10 +13,15 @@ pub fn setup(words: &mut [u64], plan: &[u64]) -> Result<(), Rejection> {
         return Err(Rejection::Plan);
     }
     words.fill(0);
-    for (shard, &line) in words.as_chunks_mut().0.iter_mut().zip(lines) {
+    write_all(words.as_chunks_mut().0, lines);
+    Ok(())
+}
+
+/// Writes the first words of a plan's shards, all of which are 0.
+pub(crate) fn write_all(shards: &mut [Shard], lines: &[[u64; 3]]) {
+    for (shard, &line) in shards.iter_mut().zip(lines) {
         write(shard, line);
     }
-    Ok(())
 }
 
 fn is_plan(lines: &[[u64; 3]]) -> bool {

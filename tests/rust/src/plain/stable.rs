@@ -38,7 +38,7 @@ pub fn longest_stable(shard: &Shard) -> &[u64] {
 }
 
 /// Copies entries to the start of `out`; gives how many they are.
-fn copy(entries: &[u64], out: &mut [u64]) -> Result<usize, Rejection> {
+pub(crate) fn copy(entries: &[u64], out: &mut [u64]) -> Result<usize, Rejection> {
     out.get_mut(..entries.len()).ok_or(Rejection::OutputShort)?.copy_from_slice(entries);
     Ok(entries.len())
 }

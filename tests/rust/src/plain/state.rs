@@ -4,9 +4,9 @@ use super::layout::{Shard, shard_count};
 use super::wellformed::are_well_formed;
 use crate::rejection::Rejection;
 
-/// Only `check` makes one, and every change through it leaves it well-formed.
+/// Made of well-formed shards alone, and every change through it leaves it well-formed.
 pub struct State<'a> {
-    pub(super) shards: &'a mut [Shard],
+    pub(crate) shards: &'a mut [Shard],
 }
 
 impl<'a> State<'a> {
@@ -18,6 +18,11 @@ impl<'a> State<'a> {
             true => Ok(State { shards }),
             false => Err(Rejection::NotWellFormed),
         }
+    }
+
+    /// Shards that were scanned elsewhere, or written by a setup.
+    pub(crate) fn scanned(shards: &'a mut [Shard]) -> State<'a> {
+        State { shards }
     }
 
     pub fn words(&self) -> &[u64] {

@@ -24,7 +24,11 @@ impl State<'_> {
     }
 
     /// The numbers are in range.
-    fn apply(&mut self, kind: Kind, [shard, index, c, d]: [u64; 4]) -> Result<(), Rejection> {
+    pub(crate) fn apply(
+        &mut self,
+        kind: Kind,
+        [shard, index, c, d]: [u64; 4],
+    ) -> Result<(), Rejection> {
         let shard = shard as usize;
         match kind {
             Kind::Add => self.add(shard, index, c),

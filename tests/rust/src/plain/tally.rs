@@ -27,7 +27,7 @@ pub fn replay_tally(
 impl State<'_> {
     /// The host that a rejected step names, whatever its number is; for add, the orderer of the configuration, if there
     /// is one.
-    fn named_host(&self, step: Step, rejection: Rejection) -> Option<u64> {
+    pub(crate) fn named_host(&self, step: Step, rejection: Rejection) -> Option<u64> {
         let [shard, index, host, _] = step.numbers;
         match (Kind::of(step.kind), rejection) {
             (Ok(Kind::Add), Rejection::Range | Rejection::NotInstalled) => None,

@@ -9,7 +9,7 @@ use crate::rejection::Rejection;
 use crate::seat::Seat;
 
 /// Hosts of a trace at most: one for each configuration before the last.
-const HOSTS: usize = CONFIGURATIONS - 1;
+pub(crate) const HOSTS: usize = CONFIGURATIONS - 1;
 
 /// Writes the hosts of a replica's source, of the source's source and so on, back to index 1; gives how many they are.
 pub fn trace(words: &[u64], seat: Seat, out: &mut [u64]) -> Result<usize, Rejection> {
@@ -24,13 +24,13 @@ pub fn trace(words: &[u64], seat: Seat, out: &mut [u64]) -> Result<usize, Reject
 }
 
 /// The host of a configuration, counted from 0, whose history a replica of the next one began with.
-struct Source {
+pub(crate) struct Source {
     j: usize,
-    host: u64,
+    pub(crate) host: u64,
 }
 
 /// The sources of a replica of configuration `j`, nearest first: none where it is pending or of the first.
-fn sources(shard: &Shard, j: usize, replica: &Replica) -> impl Iterator<Item = Source> {
+pub(crate) fn sources(shard: &Shard, j: usize, replica: &Replica) -> impl Iterator<Item = Source> {
     successors(source(j, replica), |&Source { j, host }| source(j, replica_in(shard, j, host)?))
 }
 

@@ -8,13 +8,13 @@ use super::text::{Counter, Text, Writer};
 use crate::rejection::{Rejection, number_of};
 use crate::report::{Report, Stop};
 
-const LOG_BYTES: usize = 16_384;
+pub(crate) const LOG_BYTES: usize = 16_384;
 /// A step has at least four bytes.
 const STEPS: usize = LOG_BYTES / 4;
-const BUDGET: u64 = 65_535;
-const SHARDS: usize = 2;
+pub(crate) const BUDGET: u64 = 65_535;
+pub(crate) const SHARDS: usize = 2;
 /// Sequencer, members and orderer of each shard.
-const PLAN: [u64; 3 * SHARDS] = [1, 0b0011, 0, 0, 0b1100, 2];
+pub(crate) const PLAN: [u64; 3 * SHARDS] = [1, 0b0011, 0, 0, 0b1100, 2];
 const TOO_LONG: &[u8] = b"too long\n";
 
 /// No text is longer than this: a line of 10 bytes a step, two stable histories, and the last line.
@@ -83,27 +83,33 @@ impl Run<'_> {
             text.and(line.answer.into());
             text.bytes(b"\n");
         }
-        for (number, shard) in (0..).zip(self.shards) {
-            text.bytes(b"zone");
-            text.and(number);
-            longest_stable(shard).iter().for_each(|&entry| text.and(entry));
-            text.bytes(b"\n");
-        }
-        self.tell_last(text);
+        tell_shards(self.shards, text);
+        tell_last(&self.report, text);
     }
+}
 
-    fn tell_last(&self, text: &mut impl Text) {
-        match self.report.stop {
-            Stop::Ended => text.bytes(b"ended"),
-            Stop::Spent => text.bytes(b"spent"),
-            Stop::Damaged(damage) => {
-                text.bytes(b"damaged");
-                text.and(damage.number());
-            }
-        }
-        text.and(self.report.tried);
-        text.and(self.report.rejected);
-        text.and(self.report.bytes);
+/// The lines of the shards.
+pub(crate) fn tell_shards(shards: &[Shard], text: &mut impl Text) {
+    for (number, shard) in (0..).zip(shards) {
+        text.bytes(b"zone");
+        text.and(number);
+        longest_stable(shard).iter().for_each(|&entry| text.and(entry));
         text.bytes(b"\n");
     }
+}
+
+/// The last line.
+pub(crate) fn tell_last(report: &Report, text: &mut impl Text) {
+    match report.stop {
+        Stop::Ended => text.bytes(b"ended"),
+        Stop::Spent => text.bytes(b"spent"),
+        Stop::Damaged(damage) => {
+            text.bytes(b"damaged");
+            text.and(damage.number());
+        }
+    }
+    text.and(report.tried);
+    text.and(report.rejected);
+    text.and(report.bytes);
+    text.bytes(b"\n");
 }

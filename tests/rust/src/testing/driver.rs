@@ -1,18 +1,18 @@
-//! Drives a state through random calls of both implementations.
+//! Drives a state through random calls of all implementations.
 
 use super::any_log::any_log;
 use super::asides;
-use super::both;
 use super::coverage::Coverage;
 use super::logs;
 use super::plans::plan;
 use super::random::Random;
 use super::seats::assert_trace;
+use super::sides;
 use super::singly::singly;
 use super::steps::any_step;
 use super::temper::Temper;
 use super::tried::{Tried, caps};
-use super::twin::Twin;
+use super::triplet::Triplet;
 use crate::claims::Claims;
 use crate::proved::TRACE_HOSTS;
 use crate::seat::Seat;
@@ -23,7 +23,7 @@ pub struct Driver<'a> {
     pub random: &'a mut Random,
     coverage: &'a mut Coverage,
     temper: Temper,
-    state: Twin<u64>,
+    state: Triplet<u64>,
     /// Only runs from setup have claims.
     claims: Option<Claims>,
     /// The longest list that a host of each shard has shown.
@@ -35,8 +35,8 @@ impl<'a> Driver<'a> {
     pub fn from_setup(random: &'a mut Random, coverage: &'a mut Coverage) -> Driver<'a> {
         let shards = shards(random);
         let plan = plan(random, shards);
-        let mut state = Twin::filled(shards as usize * SHARD_WORDS, random.word());
-        let answer = both::setup(&mut state, &plan);
+        let mut state = Triplet::filled(shards as usize * SHARD_WORDS, random.word());
+        let answer = sides::setup(&mut state, &plan);
         assert_eq!(answer, 0, "setup of {plan:?}");
         coverage.answer(answer);
         let claims = Claims::after_setup(state.get()).expect("the claims after setup");
@@ -54,7 +54,7 @@ impl<'a> Driver<'a> {
             temper: Temper::any(random),
             random,
             coverage,
-            state: Twin::new(words),
+            state: Triplet::new(words),
             claims: None,
             shown: Vec::new(),
         }
@@ -77,7 +77,7 @@ impl<'a> Driver<'a> {
     fn step(&mut self) {
         let step = any_step(self.random, View::new(self.state.get()), &self.temper);
         let capped = caps(View::new(self.state.get()), step);
-        let answer = both::step(&mut self.state, step);
+        let answer = sides::step(&mut self.state, step);
         let tried = Tried { step, answer, capped };
         note(self.coverage, &mut self.claims, tried, self.state.get());
     }
@@ -94,7 +94,7 @@ impl<'a> Driver<'a> {
         let expected = singly(&mut words, &log, budget, |tried, words| {
             note(coverage, claims, tried, words);
         });
-        let replayed = both::replay(&mut self.state, &log, budget);
+        let replayed = sides::replay(&mut self.state, &log, budget);
         assert_eq!(replayed, expected, "report against single steps");
         assert!(self.state.get() == words, "state against single steps");
         self.coverage.answer(replayed.answer);
@@ -129,8 +129,8 @@ impl<'a> Driver<'a> {
 
     /// In a run a shard's stable history is that of the reference shard.
     fn look_at_shard(&mut self, shard: u64) {
-        let mut out = Twin::filled(HISTORY, u64::MAX);
-        let length = both::stable_history(&mut self.state, shard, &mut out, 1).expect("a history");
+        let mut out = Triplet::filled(HISTORY, u64::MAX);
+        let length = sides::stable_history(&mut self.state, shard, &mut out, 1).expect("a history");
         if let Some(claims) = &self.claims {
             assert_eq!(&out.get()[..length], claims.reference(shard), "shard {shard}");
         }
@@ -139,8 +139,8 @@ impl<'a> Driver<'a> {
     /// In a run what a host shows begins what the reference shard holds, and is one list with all that hosts of its
     /// shard showed before.
     fn look_at_replica(&mut self, seat: Seat, stable: &[u64]) {
-        let mut out = Twin::filled(HISTORY, u64::MAX);
-        let length = both::stable_prefix(&mut self.state, seat, &mut out, 1).expect("a replica");
+        let mut out = Triplet::filled(HISTORY, u64::MAX);
+        let length = sides::stable_prefix(&mut self.state, seat, &mut out, 1).expect("a replica");
         let shown = &out.get()[..length];
         assert_eq!(shown, stable, "{seat:?}");
         if let Some(claims) = &self.claims {
@@ -155,8 +155,8 @@ impl<'a> Driver<'a> {
 
     /// In a run a replica's trace is what the inherits and catch-ups of the run say.
     fn look_at_trace(&mut self, seat: Seat) {
-        let mut out = Twin::filled(TRACE_HOSTS, u64::MAX);
-        let length = both::trace(&mut self.state, seat, &mut out, 1).expect("a replica");
+        let mut out = Triplet::filled(TRACE_HOSTS, u64::MAX);
+        let length = sides::trace(&mut self.state, seat, &mut out, 1).expect("a replica");
         let hosts = &out.get()[..length];
         assert_trace(View::new(self.state.get()), seat, hosts);
         if let Some(claims) = &self.claims {

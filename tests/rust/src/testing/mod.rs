@@ -2,7 +2,6 @@
 
 pub mod any_log;
 mod asides;
-pub mod both;
 pub mod catch_ups;
 pub mod coverage;
 pub mod driver;
@@ -15,6 +14,7 @@ pub mod random;
 pub mod script;
 pub mod seats;
 pub mod settings;
+pub mod sides;
 pub mod singly;
 pub mod states;
 pub mod steps;
@@ -22,6 +22,6 @@ pub mod tallies;
 pub mod tally_vectors;
 pub mod temper;
 pub mod tried;
-pub mod twin;
+pub mod triplet;
 pub mod vectors;
 pub mod wrong;

@@ -1,6 +1,6 @@
 //! A log run as the single steps that it stands for.
 
-use super::both::{Replayed, read_step};
+use super::sides::{Replayed, read_step};
 use super::tried::{Tried, caps};
 use crate::interface::{Interface, Proved};
 use crate::step::Step;

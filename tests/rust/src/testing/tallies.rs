@@ -3,11 +3,11 @@
 
 use std::fmt;
 
-use super::both::{self, Tallied};
 use super::coverage::{ANSWERS, REJECTIONS};
+use super::sides::{self, Tallied};
 use super::singly::singly;
 use super::tried::Tried;
-use super::twin::Twin;
+use super::triplet::Triplet;
 use crate::step::Step;
 use crate::tally::TALLY_WORDS;
 use crate::view::View;
@@ -59,12 +59,12 @@ pub struct Met {
 
 impl Met {
     /// Replays a log with a tally, without one, and as single steps. All three do the same to a well-formed state.
-    pub fn replay(&mut self, state: &mut Twin<u64>, log: &[u8], budget: u64) {
+    pub fn replay(&mut self, state: &mut Triplet<u64>, log: &[u8], budget: u64) {
         let mut words = state.get().to_vec();
         let expected = self.singly(&mut words, log, budget);
-        let mut untold = Twin::new(state.get());
-        let replayed = both::replay(&mut untold, log, budget);
-        let tallied = both::replay_tally(state, log, budget);
+        let mut untold = Triplet::new(state.get());
+        let replayed = sides::replay(&mut untold, log, budget);
+        let tallied = sides::replay_tally(state, log, budget);
         assert_eq!(tallied, expected, "{log:02x?} with budget {budget}");
         assert_eq!(tallied.replayed, replayed, "without a tally: {log:02x?} with budget {budget}");
         assert!(state.get() == words, "state after single steps: {log:02x?}");

@@ -9,7 +9,7 @@ is-short-requires : tie.Need-is-short-requires
 is-short-requires c κs = search needs
 
 short-step-requires : tie.Need-short-step-requires
-short-step-requires c κs = record { bytes = c .before .before .if1 .taken; short = sym (c .before .is-short .ensures) ∙ c .if2 .taken }
+short-step-requires c κs = sym (c .before .is-short .ensures) ∙ c .if1 .taken
 
 returns : tie.Need-returns
 returns c = reads-first _ (c .short-step .ensures)

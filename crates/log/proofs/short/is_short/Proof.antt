@@ -1,73 +1,72 @@
--- `log::short::is_short` meets its contract.
+-- `log::short::is_short` meets its contract: each exit fails a test that the definition has, and one test of the bytes joined is left. Assumes nothing.
 use native.Mathlib.Omega.{arith}
-use mathlib.Core.Path.{sym}
-use lib.Dec.{ltb}
-use lib.ListN.{getD}
-use borrow.Author.Tests.{lt-ltb, le-ltb}
-use Rattle.model.specs.Tests.{allBelow}
-use Rattle.model.proofs.Ranges.{fails}
-use Rattle.log.specs.Reader.{isShort}
+use Rattle.model.proofs.Ranges.{not-passed}
+use Rattle.log.proofs.ShortSteps.{short-fits, short-kind-least, short-kind-most, short-joined}
 use borrow.Author.Needs.{needs}
 use Rattle.log.proofs.short.is_short.Statement.{statement}
 use Rattle.log.proofs.short.is_short.Tie as tie
 
-shared-slice-read-if1 : tie.Need-shared-slice-read-if1
-shared-slice-read-if1 c = search needs
-
 returns : tie.Need-returns
-unfolding isShort
-returns c =
-    let s = c .before .before in
-    fails 5 0 (λ i. ltb (getD (s .args .log .now) i 0) 128) (omega arith) (sym (le-ltb _ _ (c .if1 .taken)))
+returns c = not-passed _ (λ e. omega (arith, short-fits _ _ e, c .if1 .taken))
 
-shared-slice-read-if2 : tie.Need-shared-slice-read-if2
-shared-slice-read-if2 c = search needs
+sub-if2 : tie.Need-sub-if2
+sub-if2 c = search needs
 
 returns-2 : tie.Need-returns-2
-unfolding isShort
-returns-2 c =
-    let s = c .before .before .before .before in
-    fails 5 1 (λ i. ltb (getD (s .args .log .now) i 0) 128) (omega arith) (sym (le-ltb _ _ (c .if2 .taken)))
+returns-2 c = not-passed _ (λ e. omega (arith, short-fits _ _ e, c .if2 .taken))
 
-shared-slice-read-if3 : tie.Need-shared-slice-read-if3
-shared-slice-read-if3 c = search needs
+shared-slice-read-kind : tie.Need-shared-slice-read-kind
+shared-slice-read-kind c = search needs
 
 returns-3 : tie.Need-returns-3
-unfolding isShort
-returns-3 c =
-    let s = c .before .before .before .before .before .before in
-    fails 5 2 (λ i. ltb (getD (s .args .log .now) i 0) 128) (omega arith) (sym (le-ltb _ _ (c .if3 .taken)))
-
-shared-slice-read-if4 : tie.Need-shared-slice-read-if4
-shared-slice-read-if4 c = search needs
+returns-3 c = not-passed _ (λ e. omega (arith, short-kind-least _ _ e, c .if3 .taken))
 
 returns-4 : tie.Need-returns-4
-unfolding isShort
-returns-4 c =
-    let s = c .before .before .before .before .before .before .before .before in
-    fails 5 3 (λ i. ltb (getD (s .args .log .now) i 0) 128) (omega arith) (sym (le-ltb _ _ (c .if4 .taken)))
+returns-4 c = not-passed _ (λ e. omega (arith, short-kind-most _ _ e, c .if4 .taken))
+
+add-result : tie.Need-add-result
+add-result c = search needs
 
 shared-slice-read-result : tie.Need-shared-slice-read-result
 shared-slice-read-result c = search needs
 
+add-result-2 : tie.Need-add-result-2
+add-result-2 c = search needs
+
+shared-slice-read-result-2 : tie.Need-shared-slice-read-result-2
+shared-slice-read-result-2 c = search needs
+
+add-result-3 : tie.Need-add-result-3
+add-result-3 c = search needs
+
+shared-slice-read-result-3 : tie.Need-shared-slice-read-result-3
+shared-slice-read-result-3 c = search needs
+
+add-result-4 : tie.Need-add-result-4
+add-result-4 c = search needs
+
+shared-slice-read-result-4 : tie.Need-shared-slice-read-result-4
+shared-slice-read-result-4 c = search needs
+
 returns-5 : tie.Need-returns-5
-unfolding isShort allBelow
-returns-5 c =
-    let third = c .before .before .before in
-    let second = third .before .before in
-    rw (lt-ltb _ _ (second .before .before .if1 .left), lt-ltb _ _ (second .if2 .left), lt-ltb _ _ (third .if3 .left), lt-ltb _ _ (c .before .if4 .left))
+returns-5 c = short-joined _ _ (omega arith) (omega arith) (omega arith)
 
 pub is-short-spec : {M : Type 1} → statement M
 is-short-spec =
     tie.close
     (tie.spec
-    shared-slice-read-if1
     returns
-    shared-slice-read-if2
+    sub-if2
     returns-2
-    shared-slice-read-if3
+    shared-slice-read-kind
     returns-3
-    shared-slice-read-if4
     returns-4
+    add-result
     shared-slice-read-result
+    add-result-2
+    shared-slice-read-result-2
+    add-result-3
+    shared-slice-read-result-3
+    add-result-4
+    shared-slice-read-result-4
     returns-5)

@@ -86,7 +86,7 @@ same-length : tie.Need-same-length Inv-loop μ-loop
 same-length c = done c .kept
 
 returns : tie.Need-returns Inv-loop μ-loop
-returns c = progress-end (done c) .1
+returns c = let e = progress-end (done c) in (omega (arith, e .0), e .1)
 
 pub write-text-spec : {M : Type 1} → statement M
 write-text-spec =

@@ -1,14 +1,25 @@
 -- `replay::turns::turn` meets its contract.
-use Prim.Native.Nat.{_<_}
+use Prim.Native.Nat.{_+_, _^_, _<_}
 use native.Mathlib.Omega.{arith}
-use mathlib.Core.Path.{sym, _∙_}
+use mathlib.Core.Path.{_≡_, sym, _∙_}
+use mathlib.Core.Bool.{true}
 use lib.ListN.{length}
+use Rattle.model.specs.declared.Reading.the-variants.{Step as Read}
+use Rattle.model.specs.Log.{stepOf, readAt}
+use Rattle.log.specs.Short.{isShortAt}
+use Rattle.log.specs.Long.{isLongAddAt}
+use Rattle.log.proofs.ShortSteps.{short-fits, short-read, short-length-most}
+use Rattle.log.proofs.LongAdds.{long-fits, long-read, long-length-most}
 use Rattle.replay.specs.Counts.{nothingCounted}
-use Rattle.replay.proofs.TurnExits.{exit-ended, exit-spent, exit-end, exit-damaged, exit-accepted, exit-rejected}
-use Rattle.replay.proofs.Turning.{has-host}
+use Rattle.replay.proofs.Running.{read-as}
+use Rattle.replay.proofs.TurnExits.{exit-ended, exit-spent, exit-end, exit-damaged, exit-tried}
+use Rattle.replay.proofs.Turning.{was-tried}
 use borrow.Author.Needs.{needs}
 use Rattle.replay.proofs.turns.turn.Statement.{statement}
 use Rattle.replay.proofs.turns.turn.Tie as tie
+
+small : (s : tie.Start) → s .args .budget < 2 ^ 64
+small s = search needs
 
 stopped-requires : tie.Need-stopped-requires
 stopped-requires c κs = search needs
@@ -34,64 +45,153 @@ returns-2 c =
     rw (c .over2 .ensures, c .before .stopped2 .ensures)
     (exit-spent _ _ _ _ (c .before .before .before .if1 .taken) more)
 
+shard-count-requires : tie.Need-shard-count-requires
+shard-count-requires c κs = search needs
+
+is-short-requires : tie.Need-is-short-requires
+is-short-requires c κs = search needs
+
+-- ---- a short step
+
+abbrev entry-short : tie.Then3 → tie.Start
+entry-short t = t .before .before .before .before .before .before
+
+short : (t : tie.Then3) → let a = entry-short t .args in isShortAt (a .log .now) (a .before .bytes) ≡ true
+short t = sym (t .before .is-short .ensures) ∙ t .if3 .taken
+
+-- the place where it was told, and what is read there
+abbrev told-short : tie.After-length → tie.Then3
+told-short l = l .before .before .before .before .before .before
+
+short-is : (l : tie.After-length)
+    → let a = entry-short (told-short l) .args in
+    readAt (a .log .now) (a .before .bytes) ≡ Read (l .before .before .before .before .before .step .result) (a .before .bytes + l .length .result)
+short-is l =
+    let a = entry-short (told-short l) .args in
+    let s = l .before .before .before .before .before in
+    read-as (a .log .now) (a .before .bytes) (short-read _ _ (short (told-short l))) (s .step .ensures) (l .length .ensures)
+
+step-requires : tie.Need-step-requires
+step-requires c κs = short c
+
+step-numbers-requires : tie.Need-step-numbers-requires
+step-numbers-requires c κs = search needs
+
+length-requires : tie.Need-length-requires
+length-requires c κs = short (c .before .before .before .before .before)
+
+add-next : tie.Need-add-next
+add-next c =
+    let t = told-short c in
+    let a = entry-short t .args in
+    omega (arith, c .length .ensures, short-fits (a .log .now) (a .before .bytes) (short t), short-length-most (a .log .now) (a .before .bytes))
+
+tried-one-requires : tie.Need-tried-one-requires
+unfolding stepOf
+tried-one-requires c κs =
+    let l = c .before in
+    let t = told-short l in
+    let s = entry-short t in
+    let f = l .before .before .before .step-numbers .ensures in
+    was-tried nothingCounted (s .pre .underway) _ _ (t .before .before .before .if1 .left) (short-is l) (f .0) (f .1) (small s)
+
+same-length : tie.Need-same-length
+same-length c = search needs
+
+returns-3 : tie.Need-returns-3
+unfolding stepOf
+returns-3 c =
+    let l = c .before .before in
+    let f = l .before .before .before .step-numbers .ensures in
+    exit-tried _ _ _ _ (told-short l .before .before .before .if1 .left) _ _ (short-is l) (f .0) (f .1) (c .tried-one .ensures)
+
+is-long-add-requires : tie.Need-is-long-add-requires
+is-long-add-requires c κs = search needs
+
+-- ---- an add of a longer entry
+
+abbrev entry-long : tie.Then4 → tie.Start
+entry-long t = t .before .before .before .before .before .before .before .before
+
+long : (t : tie.Then4) → let a = entry-long t .args in isLongAddAt (a .log .now) (a .before .bytes) ≡ true
+long t = sym (t .before .is-long-add .ensures) ∙ t .if4 .taken
+
+abbrev told-long : tie.After-length2 → tie.Then4
+told-long l = l .before .before .before .before .before .before
+
+long-is : (l : tie.After-length2)
+    → let a = entry-long (told-long l) .args in
+    readAt (a .log .now) (a .before .bytes) ≡ Read (l .before .before .before .before .before .step2 .result) (a .before .bytes + l .length2 .result)
+long-is l =
+    let a = entry-long (told-long l) .args in
+    let s = l .before .before .before .before .before in
+    read-as (a .log .now) (a .before .bytes) (long-read _ _ (long (told-long l))) (s .step2 .ensures) (l .length2 .ensures)
+
+step-requires-2 : tie.Need-step-requires-2
+step-requires-2 c κs = long c
+
+step-numbers-requires-2 : tie.Need-step-numbers-requires-2
+step-numbers-requires-2 c κs = search needs
+
+length-requires-2 : tie.Need-length-requires-2
+length-requires-2 c κs = long (c .before .before .before .before .before)
+
+add-next-2 : tie.Need-add-next-2
+add-next-2 c =
+    let t = told-long c in
+    let a = entry-long t .args in
+    omega (arith, c .length2 .ensures, long-fits (a .log .now) (a .before .bytes) (long t), long-length-most (a .log .now) (a .before .bytes))
+
+tried-one-requires-2 : tie.Need-tried-one-requires-2
+unfolding stepOf
+tried-one-requires-2 c κs =
+    let l = c .before in
+    let t = told-long l in
+    let s = entry-long t in
+    let f = l .before .before .before .step-numbers2 .ensures in
+    was-tried nothingCounted (s .pre .underway) _ _ (t .before .before .before .before .before .if1 .left) (long-is l) (f .0) (f .1) (small s)
+
+same-length-2 : tie.Need-same-length-2
+same-length-2 c = search needs
+
+returns-4 : tie.Need-returns-4
+unfolding stepOf
+returns-4 c =
+    let l = c .before .before in
+    let f = l .before .before .before .step-numbers2 .ensures in
+    exit-tried _ _ _ _ (told-long l .before .before .before .before .before .if1 .left) _ _ (long-is l) (f .0) (f .1) (c .tried-one2 .ensures)
+
 read-step-requires : tie.Need-read-step-requires
 read-step-requires c κs = search needs
 
 enum-known-step : tie.Need-enum-known-step
 enum-known-step c = search needs
 
-step-inside-requires : tie.Need-step-inside-requires
-step-inside-requires c κs = search needs
+step-numbers-requires-3 : tie.Need-step-numbers-requires-3
+step-numbers-requires-3 c κs = search needs
 
-add-stopped : tie.Need-add-stopped
-add-stopped c = search needs
+-- ---- any other step
 
-stopped-requires-3 : tie.Need-stopped-requires-3
-stopped-requires-3 c κs = search needs
+-- where the budget was tested, from the place after reading
+abbrev within : tie.After-read-step → tie.Else1
+within r = r .before .before .before .before .before .before
 
-on-requires : tie.Need-on-requires
-on-requires c κs = search needs
-
-same-length : tie.Need-same-length
-same-length c = search needs
-
-returns-3 : tie.Need-returns-3
-returns-3 c =
-    let m = c .before .before .before .before .before in
-    let s = m .before .before .before in
+tried-one-requires-3 : tie.Need-tried-one-requires-3
+unfolding stepOf
+tried-one-requires-3 c κs =
+    let n = c .before .before .before in
+    let s = n .before .before .before in
     let r = s .before .before in
-    let e = sym (r .read-step .ensures .1 .1 .1) ∙ s .step .given .1 in
-    let f = m .step-inside .ensures in
-    rw (c .on .ensures, c .before .stopped3 .ensures)
-    (exit-accepted _ _ _ _ (r .before .if1 .left) (s .step .given .0 .0) (s .step .given .0 .1 .0) e (f .0) (f .1) (c .before .before .if3 .taken))
-
-count-of-requires : tie.Need-count-of-requires
-count-of-requires c κs =
-    let m = c .before .before .before .before in
-    let s = m .before .before .before in
-    let r = s .before .before in
-    let e = sym (r .read-step .ensures .1 .1 .1) ∙ s .step .given .1 in
-    let f = m .step-inside .ensures in
-    let u = r .before .before .before .before .pre in
-    has-host nothingCounted (u .underway) (s .step .given .0 .0) (s .step .given .0 .1 .0) (r .before .if1 .left) e (f .0) (f .1) (c .before .if3 .left)
-
-add-stopped-2 : tie.Need-add-stopped-2
-add-stopped-2 c = search needs
-
-add-stopped-3 : tie.Need-add-stopped-3
-add-stopped-3 c = search needs
-
-stopped-requires-4 : tie.Need-stopped-requires-4
-stopped-requires-4 c κs = search needs
-
-on-requires-2 : tie.Need-on-requires-2
-on-requires-2 c κs = search needs
+    let e = sym (r .read-step .ensures .1 .1 .1) ∙ s .step3 .given .1 in
+    let f = n .step-numbers3 .ensures in
+    let start = within r .before .before .before in
+    was-tried nothingCounted (start .pre .underway) (s .step3 .given .0 .0) (s .step3 .given .0 .1 .0) (within r .if1 .left) e (f .0) (f .1) (small start)
 
 enum-told : tie.Need-enum-told
 enum-told c = search needs
 
-stopped-requires-5 : tie.Need-stopped-requires-5
-stopped-requires-5 c κs = search needs
+stopped-requires-3 : tie.Need-stopped-requires-3
+stopped-requires-3 c κs = search needs
 
 over-requires-3 : tie.Need-over-requires-3
 over-requires-3 c κs = search needs
@@ -99,38 +199,37 @@ over-requires-3 c κs = search needs
 enum-known-r : tie.Need-enum-known-r
 enum-known-r c = search needs
 
-stopped-requires-6 : tie.Need-stopped-requires-6
-stopped-requires-6 c κs = search needs
+stopped-requires-4 : tie.Need-stopped-requires-4
+stopped-requires-4 c κs = search needs
 
 over-requires-4 : tie.Need-over-requires-4
 over-requires-4 c κs = search needs
 
-same-length-2 : tie.Need-same-length-2
-same-length-2 c = search needs
-
-returns-4 : tie.Need-returns-4
-returns-4 c =
-    let m = c .before .before .before .before .before .before .before in
-    let s = m .before .before .before in
-    let r = s .before .before in
-    let e = sym (r .read-step .ensures .1 .1 .1) ∙ s .step .given .1 in
-    let f = m .step-inside .ensures in
-    rw (c .on2 .ensures, c .before .stopped4 .ensures)
-    (exit-rejected _ _ _ _ (r .before .if1 .left) (s .step .given .0 .0) (s .step .given .0 .1 .0) e (f .0) (f .1)
-    (c .before .before .before .before .if3 .left) (c .before .before .count-of .ensures))
+same-length-3 : tie.Need-same-length-3
+same-length-3 c = search needs
 
 returns-5 : tie.Need-returns-5
+unfolding stepOf
 returns-5 c =
-    let r = c .before .before .before .before in
-    let e = sym (r .read-step .ensures .1 .1 .1) ∙ c .before .before .enum-told .given .1 in
-    rw (c .over3 .ensures, c .before .stopped5 .ensures) (exit-end _ _ _ _ (r .before .if1 .left) e)
+    let n = c .before .before .before .before in
+    let s = n .before .before .before in
+    let r = s .before .before in
+    let e = sym (r .read-step .ensures .1 .1 .1) ∙ s .step3 .given .1 in
+    let f = n .step-numbers3 .ensures in
+    exit-tried _ _ _ _ (within r .if1 .left) (s .step3 .given .0 .0) (s .step3 .given .0 .1 .0) e (f .0) (f .1) (c .tried-one3 .ensures)
 
 returns-6 : tie.Need-returns-6
 returns-6 c =
+    let r = c .before .before .before .before in
+    let e = sym (r .read-step .ensures .1 .1 .1) ∙ c .before .before .enum-told .given .1 in
+    rw (c .over3 .ensures, c .before .stopped3 .ensures) (exit-end _ _ _ _ (within r .if1 .left) e)
+
+returns-7 : tie.Need-returns-7
+returns-7 c =
     let k = c .before .before .before in
     let r = k .before .before in
     let e = sym (r .read-step .ensures .1 .1 .1) ∙ k .r .given .1 in
-    rw (c .over4 .ensures, c .before .stopped6 .ensures) (exit-damaged _ _ _ _ (r .before .if1 .left) (k .r .given .0 .0) e)
+    rw (c .over4 .ensures, c .before .stopped4 .ensures) (exit-damaged _ _ _ _ (within r .if1 .left) (k .r .given .0 .0) e)
 
 pub turn-spec : {M : Type 1} → statement M
 turn-spec =
@@ -142,26 +241,34 @@ turn-spec =
     stopped-requires-2
     over-requires-2
     returns-2
-    read-step-requires
-    enum-known-step
-    step-inside-requires
-    add-stopped
-    stopped-requires-3
-    on-requires
+    shard-count-requires
+    is-short-requires
+    step-requires
+    step-numbers-requires
+    length-requires
+    add-next
+    tried-one-requires
     same-length
     returns-3
-    count-of-requires
-    add-stopped-2
-    add-stopped-3
-    stopped-requires-4
-    on-requires-2
-    enum-told
-    stopped-requires-5
-    over-requires-3
-    enum-known-r
-    stopped-requires-6
-    over-requires-4
+    is-long-add-requires
+    step-requires-2
+    step-numbers-requires-2
+    length-requires-2
+    add-next-2
+    tried-one-requires-2
     same-length-2
     returns-4
+    read-step-requires
+    enum-known-step
+    step-numbers-requires-3
+    tried-one-requires-3
+    enum-told
+    stopped-requires-3
+    over-requires-3
+    enum-known-r
+    stopped-requires-4
+    over-requires-4
+    same-length-3
     returns-5
-    returns-6)
+    returns-6
+    returns-7)

@@ -1,31 +1,54 @@
 -- `text_parts::number::width` meets its contract.
+use Prim.Native.Nat.{_/_}
 use native.Mathlib.Omega.{arith}
+use mathlib.Core.Path.{sym}
 use borrow.Author.Needs.{needs}
-use Rattle.text_parts.proofs.Digits.{Counted, count-start, count-more, count-end}
+use Rattle.text_parts.proofs.Decimal.{decimal-most}
+use Rattle.text_parts.proofs.Digits.{more-digits, all-digits}
 use Rattle.text_parts.proofs.number.width.Statement.{statement}
 use Rattle.text_parts.proofs.number.width.Tie as tie
 
-abbrev Inv-loop : tie.InvT-loop
-Inv-loop n rest₀ digits₀ rest digits = Counted n rest digits
+small-width-requires : tie.Need-small-width-requires
+small-width-requires c κs = search needs
 
-abbrev μ-loop : tie.MeasureT-loop
-μ-loop n rest₀ digits₀ rest digits = rest
+returns : tie.Need-returns
+returns c = search needs
 
-loop-holds : tie.Need-loop-holds Inv-loop μ-loop
-loop-holds c = count-start _ (search needs)
+small-width-requires-2 : tie.Need-small-width-requires-2
+small-width-requires-2 c κs = search needs
 
-add-digits : tie.Need-add-digits Inv-loop μ-loop
-add-digits c = omega (arith, c .before .loop .inv .same, c .before .loop .inv .most)
+add-result : tie.Need-add-result
+add-result c = omega (arith, c .small-width2 .ensures, decimal-most (c .before .before .before .args .n / 10000))
 
-loop-less : tie.Need-loop-less Inv-loop μ-loop
-loop-less c = search needs
+returns-2 : tie.Need-returns-2
+returns-2 c = omega (arith, c .small-width2 .ensures, more-digits 4 (c .before .before .if1 .left) (search needs))
 
-loop-again : tie.Need-loop-again Inv-loop μ-loop
-loop-again c = count-more (c .before .loop .inv) (c .loop-test .taken)
+returns-3 : tie.Need-returns-3
+returns-3 c = sym (all-digits 8 (c .before .if2 .left) (search needs) (c .if3 .taken))
 
-returns : tie.Need-returns Inv-loop μ-loop
-returns c = count-end (c .before .loop .inv) (c .loop-test .left)
+returns-4 : tie.Need-returns-4
+returns-4 c = sym (all-digits 9 (c .before .if3 .left) (search needs) (c .if4 .taken))
+
+large-width-requires : tie.Need-large-width-requires
+large-width-requires c κs = search needs
+
+add-result-2 : tie.Need-add-result-2
+add-result-2 c = omega (arith, c .large-width .ensures, decimal-most (c .before .before .before .before .before .args .n / 10000000000))
+
+returns-5 : tie.Need-returns-5
+returns-5 c = omega (arith, c .large-width .ensures, more-digits 10 (c .before .if4 .left) (search needs))
 
 pub width-spec : {M : Type 1} → statement M
 width-spec =
-    tie.close (tie.spec Inv-loop μ-loop loop-holds add-digits loop-less loop-again returns)
+    tie.close
+    (tie.spec
+    small-width-requires
+    returns
+    small-width-requires-2
+    add-result
+    returns-2
+    returns-3
+    returns-4
+    large-width-requires
+    add-result-2
+    returns-5)

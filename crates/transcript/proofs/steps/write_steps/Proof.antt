@@ -3,7 +3,9 @@ use Prim.Native.Nat.{_-_}
 use native.Mathlib.Omega.{arith}
 use mathlib.Core.Path.{sym, _∙_}
 use mathlib.Core.Logic.{⊎-elim}
+use Rattle.model.specs.Log.{stepOf}
 use Rattle.model.specs.Transcript.{programBudget}
+use Rattle.replay.proofs.Running.{counted-still}
 use Rattle.replay.proofs.Rest.{reads-end, reads-damage, reads-all, reads-part}
 use Rattle.transcript.proofs.RunLines.{Printing, print-start, print-room, print-rejected, print-accepted, print-stops}
 use borrow.Author.Needs.{needs}
@@ -11,13 +13,16 @@ use Rattle.transcript.proofs.steps.write_steps.Statement.{statement}
 use Rattle.transcript.proofs.steps.write_steps.Tie as tie
 
 abbrev Inv-loop : tie.InvT-loop
-Inv-loop state₀ log out₀ at₀ tried₀ rejected₀ end₀ state out at tried rejected end = Printing state₀ log out₀ state out at tried rejected end
+Inv-loop state₀ log out₀ shards at₀ tried₀ rejected₀ end₀ state out at tried rejected end = Printing state₀ log out₀ state out at tried rejected end
 
 abbrev μ-loop : tie.MeasureT-loop
-μ-loop state₀ log out₀ at₀ tried₀ rejected₀ end₀ state out at tried rejected end = programBudget - tried
+μ-loop state₀ log out₀ shards at₀ tried₀ rejected₀ end₀ state out at tried rejected end = programBudget - tried
+
+shard-count-requires : tie.Need-shard-count-requires Inv-loop μ-loop
+shard-count-requires c κs = search needs
 
 loop-holds : tie.Need-loop-holds Inv-loop μ-loop
-loop-holds c = print-start _ _ _ (c .before .before .before .pre)
+loop-holds c = print-start _ _ _ (c .before .before .before .before .pre)
 
 read-step-requires : tie.Need-read-step-requires Inv-loop μ-loop
 read-step-requires c κs = search needs
@@ -25,8 +30,10 @@ read-step-requires c κs = search needs
 enum-known-step : tie.Need-enum-known-step Inv-loop μ-loop
 enum-known-step c = search needs
 
-step-inside-requires : tie.Need-step-inside-requires Inv-loop μ-loop
-step-inside-requires c κs = c .before .before .before .before .before .before .loop .inv .running .formed
+step-numbers-requires : tie.Need-step-numbers-requires Inv-loop μ-loop
+step-numbers-requires c κs =
+    let l = c .before .before .before .before .before .before in
+    (l .loop .inv .running .formed, counted-still (l .loop .inv .running) (l .before .shard-count .ensures))
 
 add-rejected : tie.Need-add-rejected Inv-loop μ-loop
 add-rejected c =
@@ -37,17 +44,19 @@ add-tried : tie.Need-add-tried Inv-loop μ-loop
 add-tried c = search needs
 
 write-line-requires : tie.Need-write-line-requires Inv-loop μ-loop
+unfolding stepOf
 write-line-requires c κs =
     let m = c .before .before .before .before in
     let s = m .before .before .before in
     let r = s .before .before in
     let e = sym (r .read-step .ensures .1 .1 .1) ∙ s .step .given .1 in
-    print-room (r .before .before .loop .inv) (s .step .given .0 .0) (s .step .given .0 .1 .0) (r .before .loop-test .taken) e _ (m .step-inside .ensures .0)
+    print-room (r .before .before .loop .inv) (s .step .given .0 .0) (s .step .given .0 .1 .0) (r .before .loop-test .taken) e _ (m .step-numbers .ensures .0)
 
 loop-less : tie.Need-loop-less Inv-loop μ-loop
 loop-less c = search needs
 
 loop-again : tie.Need-loop-again Inv-loop μ-loop
+unfolding stepOf
 loop-again c =
     let w = c .before .before in
     let m = w .before .before .before .before .before in
@@ -56,7 +65,7 @@ loop-again c =
     let i = r .before .before .loop .inv in
     let h = r .before .loop-test .taken in
     let e = sym (r .read-step .ensures .1 .1 .1) ∙ s .step .given .1 in
-    let f = m .step-inside .ensures in
+    let f = m .step-numbers .ensures in
     let l = w .write-line .ensures in
     ⊎-elim (λ d. print-rejected i (s .step .given .0 .0) (s .step .given .0 .1 .0) h e _ f l (d .0 .taken) (omega (arith, d .1)))
     (λ d. print-accepted i (s .step .given .0 .0) (s .step .given .0 .1 .0) h e _ f l (d .0 .left) (omega (arith, d .1)))
@@ -80,7 +89,7 @@ returns c =
     let l = r .before .before in
     let e = sym (r .read-step .ensures .1 .1 .1) ∙ c .before .enum-told .given .1 in
     print-stops (l .loop .inv) (c .stopped .ensures)
-    (reads-end (l .before .before .before .before .args .log .now) programBudget (l .loop .at) (l .loop .tried) (r .before .loop-test .taken) e)
+    (reads-end (l .before .before .before .before .before .args .log .now) programBudget (l .loop .at) (l .loop .tried) (r .before .loop-test .taken) e)
 
 enum-known-r : tie.Need-enum-known-r Inv-loop μ-loop
 enum-known-r c = search needs
@@ -100,7 +109,7 @@ returns-2 c =
     let r = k .before .before in
     let l = r .before .before in
     let e = sym (r .read-step .ensures .1 .1 .1) ∙ k .r .given .1 in
-    let log = l .before .before .before .before .args .log .now in
+    let log = l .before .before .before .before .before .args .log .now in
     print-stops (l .loop .inv) (c .stopped2 .ensures)
     (reads-damage log programBudget (l .loop .at) (l .loop .tried) (k .r .given .0 .0) (r .before .loop-test .taken) e)
 
@@ -116,7 +125,7 @@ same-length-6 c = c .before .before .before .loop .inv .lines .kept
 returns-3 : tie.Need-returns-3 Inv-loop μ-loop
 returns-3 c =
     let l = c .before .before .before in
-    let log = l .before .before .before .before .args .log .now in
+    let log = l .before .before .before .before .before .args .log .now in
     print-stops (l .loop .inv) (c .stopped3 .ensures)
     (reads-all log programBudget (l .loop .at) (l .loop .tried) (c .before .before .loop-test .left) (omega (arith, c .before .if2 .taken)))
 
@@ -132,7 +141,7 @@ same-length-8 c = c .before .before .before .loop .inv .lines .kept
 returns-4 : tie.Need-returns-4 Inv-loop μ-loop
 returns-4 c =
     let l = c .before .before .before in
-    let log = l .before .before .before .before .args .log .now in
+    let log = l .before .before .before .before .before .args .log .now in
     print-stops (l .loop .inv) (c .stopped4 .ensures)
     (reads-part log programBudget (l .loop .at) (l .loop .tried) (c .before .before .loop-test .left) (omega (arith, c .before .if2 .left)))
 
@@ -142,10 +151,11 @@ write-steps-spec =
     (tie.spec
     Inv-loop
     μ-loop
+    shard-count-requires
     loop-holds
     read-step-requires
     enum-known-step
-    step-inside-requires
+    step-numbers-requires
     add-rejected
     add-tried
     write-line-requires

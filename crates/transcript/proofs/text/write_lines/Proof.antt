@@ -2,22 +2,22 @@
 use Prim.Native.Nat.{ℕ, _<_}
 use native.Mathlib.Nat.{zero-add}
 use native.Mathlib.Omega.{arith}
-use mathlib.Core.Path.{_≡_, _∙_}
+use mathlib.Core.Path.{_≡_, refl, _∙_}
 use mathlib.Core.List.{List, [], _++_}
-use lib.ListN.{length, replicate, length-replicate}
+use lib.ListN.{length}
 use Rattle.model.specs.Transcript.{programPlan, programStart, shardLine, lastLine, lines}
 use Rattle.replay.specs.Run.{reported}
 use Rattle.histories.specs.History.{OfShard}
 use Rattle.model.proofs.Progress.{Progress, progress-next, progress-room, progress-last, progress-end}
-use Rattle.transcript.proofs.WholeText.{begun, run-room, run-written, of-shard}
+use Rattle.transcript.proofs.WholeText.{planned, run-room, run-written, of-shard}
 use borrow.Author.Needs.{needs}
 use Rattle.transcript.proofs.text.write_lines.Statement.{statement}
 use Rattle.transcript.proofs.text.write_lines.Tie as tie
 
--- the state after setup, from zeros and the words of the plan
-begins : (c : tie.After-setup) → c .setup .last .0 ≡ programStart
-unfolding programPlan
-begins c = begun (replicate 4224 0) (length-replicate {A = ℕ} 4224 0) (c .setup .ensures .1)
+-- the state that the plan gives
+begins : (c : tie.After-write-shards) → c .write-shards .last .0 ≡ programStart
+unfolding programStart programPlan
+begins c = c .write-shards .ensures
 
 -- the function's entry, from the place after the run, and the run from the place after each part
 abbrev entry-0 : tie.After-write-steps → tie.Start
@@ -68,14 +68,15 @@ at-last c =
 done : (c : tie.After-write-last) → Left (run-3 c) (c .write-last .last .0) (c .write-last .result) []
 done c = progress-last (at-last (c .before .before .before .before)) (c .write-last .ensures)
 
-slice-aggregate-setup : tie.Need-slice-aggregate-setup
-slice-aggregate-setup c = search needs
+slice-aggregate-write-shards : tie.Need-slice-aggregate-write-shards
+slice-aggregate-write-shards c = search needs
 
-slice-aggregate-setup-2 : tie.Need-slice-aggregate-setup-2
-slice-aggregate-setup-2 c = search needs
+slice-aggregate-write-shards-2 : tie.Need-slice-aggregate-write-shards-2
+slice-aggregate-write-shards-2 c = search needs
 
-setup-requires : tie.Need-setup-requires
-setup-requires c κs = search needs
+write-shards-requires : tie.Need-write-shards-requires
+unfolding programPlan
+write-shards-requires c κs = (refl, planned)
 
 slice-aggregate-write-steps : tie.Need-slice-aggregate-write-steps
 slice-aggregate-write-steps c = search needs
@@ -118,9 +119,9 @@ pub write-lines-spec : {M : Type 1} → statement M
 write-lines-spec =
     tie.close
     (tie.spec
-    slice-aggregate-setup
-    slice-aggregate-setup-2
-    setup-requires
+    slice-aggregate-write-shards
+    slice-aggregate-write-shards-2
+    write-shards-requires
     slice-aggregate-write-steps
     write-steps-requires
     slice-aggregate-write-shard

@@ -66,7 +66,9 @@ cast-size : tie.Need-cast-size
 cast-size c = search needs
 
 all-parts-requires : tie.Need-all-parts-requires
-all-parts-requires c κs = search needs
+all-parts-requires c κs =
+    let i = c .before in
+    (omega arith, proper-few _ _ _ (sym (not-false _ (i .if2 .left)) ∙ i .before .is-configuration .ensures) (c .size .ensures))
 
 returns-2 : tie.Need-returns-2
 returns-2 c =

@@ -35,7 +35,8 @@ loop-less c = omega arith
 loop-again : tie.Need-loop-again Inv-loop μ-loop
 loop-again c =
     let at = c .before .before .loop in
-    (omega arith, joined-more (c .before .before .before .args .words .now) (at .i) (at .joined) (at .inv .1))
+    let words = c .before .before .before .args .words .now in
+    (omega arith, joined-more (λ k. getD words k 0) (at .i) (at .joined) (at .inv .1))
 
 returns : tie.Need-returns Inv-loop μ-loop
 returns c = reached _ (c .before .loop .i) _ _ (omega arith) (omega arith) (c .before .loop .inv .1)
