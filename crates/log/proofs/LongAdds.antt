@@ -1,5 +1,5 @@
 -- An add at a position whose entry may have several bytes. Assumes nothing.
-use Prim.Native.Nat.{ℕ, suc, _+_, _^_, _≤_, _<_}
+use Prim.Native.Nat.{ℕ, suc, _+_, _≤_, _<_}
 use native.Mathlib.Omega.{arith}
 use mathlib.Core.Path.{_≡_, sym, ap, _∙_}
 use mathlib.Core.Bool.{Bool, true, not}
@@ -19,7 +19,7 @@ use Rattle.model.proofs.Joined.{left-most, right-most}
 use Rattle.model.proofs.Tests.{Passing, all-pass}
 use Rattle.log.specs.Long.{groupsCount, lastByte, entryBytes, isLongAddAt, longEntry, longLength, longStep}
 use Rattle.log.proofs.FirstByte.{read-one, read-one-after}
-use Rattle.log.proofs.Groups.{groups-read, groups-below, groups-most}
+use Rattle.log.proofs.Groups.{groups-read, groups-most}
 use Rattle.log.proofs.ShortSteps.{kind-told}
 use Rattle.log.proofs.StepParts.{step-done, three-numbers, step-at}
 
@@ -28,17 +28,9 @@ next-byte : (l : List ℕ) (i j : ℕ) → suc i ≡ j → j ≤ length l → dr
 next-byte l i j e h = drop-cons l i 0 (omega arith) ∙ ap (λ (k : ℕ). getD l i 0 ∷ drop k l) e
 
 module _ (l : List ℕ) (at : ℕ) where
-  pub long-length-least : 1 ≤ longLength l at
-  unfolding longLength
-  long-length-least = omega arith
-
   pub long-length-most : longLength l at ≤ 8
   unfolding longLength entryBytes
   long-length-most = omega (arith, groups-most (entryBytes l at))
-
-  pub long-entry-most : longEntry l at < 2 ^ 35
-  unfolding longEntry entryBytes
-  long-entry-most = groups-below (entryBytes l at)
 
   five-bytes : at + 8 ≤ length l → drop (at + 3) l ≡ entryBytes l at ++ drop (at + 8) l
   unfolding entryBytes

@@ -41,10 +41,6 @@ module _ (l : List ℕ) (at : ℕ) where
   abbrev isOne : ℕ → Bool
   isOne i = ltb (getD l (at + suc i) 0) 128
 
-  pub short-length-least : 1 ≤ shortLength l at
-  unfolding shortLength
-  short-length-least = omega arith
-
   pub short-length-most : shortLength l at ≤ 5
   unfolding shortLength
   short-length-most = omega (arith, fourth-most (getD l at 0))

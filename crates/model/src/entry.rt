@@ -5,7 +5,7 @@ ghost use Rattle.model.specs.Entries.{isIssue, issueIndex, issueShard, i
 // What an issue's word is more than the sum of its fields, and what each field is multiplied with: powers of two.
 const ISSUE: u64 = 4294967296;
 
-const INDEX: u64 = 16777216;
+pub const INDEX: u64 = 16777216;
 
 const SHARD: u64 = 1048576;
 

@@ -1,15 +1,15 @@
 -- The mark of an issue and its index, as one number.
 -- Assumes nothing.
-use Prim.Native.Nat.{ℕ, _/_, _%_, _^_, _≤_, _<_}
+use Prim.Native.Nat.{ℕ, _/_, _^_, _≤_, _<_}
 use native.Mathlib.Omega.{arith}
 use mathlib.Core.Path.{_≡_, sym}
 use mathlib.Core.Bool.{Bool, true, false, _&&_}
-use lib.Dec.{leb, eqb}
+use lib.Dec.{leb}
 use lib.Pow.{shr-shr}
 use borrow.Author.Tests.{eqb-true, eq-eqb, leb-true, le-leb}
 use Rattle.model.specs.Entries.{isIssue, issueIndex}
 use Rattle.model.proofs.Tests.{both}
-use Rattle.model.proofs.Ranges.{same-test, not-passed}
+use Rattle.model.proofs.Ranges.{not-passed}
 
 -- an issue with a proper index
 abbrev pub isMarked : ℕ → Bool

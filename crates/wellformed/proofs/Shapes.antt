@@ -20,7 +20,7 @@ use Rattle.model.proofs.Ranges.{same-test}
 use Rattle.wellformed.specs.Shapes.{zeros, isShape, areFirstOf, isKnown}
 use Rattle.wellformed.proofs.Zeros.{to-end, part-length, zeros-parted}
 use Rattle.wellformed.proofs.Takes.{takes-entries}
-use Rattle.wellformed.proofs.Words.{Shaped, Used, used, is-used, waits-test, test-waits}
+use Rattle.wellformed.proofs.Words.{Shaped, used, is-used, waits-test, test-waits}
 
 -- ---- all but the entries
 

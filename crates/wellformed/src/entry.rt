@@ -11,9 +11,6 @@ pub fn is_take(e: u64) -> bool
     1 <= e && e <= 4294967295
 }
 
-// What an index is multiplied with in an issue's word.
-const INDEX: u64 = 16777216;
-
 // The least and the largest index, with the mark of an issue before it, 256.
 const LEAST_INDEX: u64 = 258;
 
@@ -23,7 +20,7 @@ const LARGEST_INDEX: u64 = 264;
 pub fn is_proper_issue(shards: usize, e: u64) -> bool
     ensures { λ r. ⌜ r ≡ isProperIssue shards e ⌝ }
 {
-    let index = e / INDEX;
+    let index = e / entry::INDEX;
     if index < LEAST_INDEX {
         return false;
     }

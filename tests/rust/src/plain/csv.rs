@@ -14,14 +14,20 @@ pub fn csv(words: &[u64], out: &mut [u8]) -> Result<usize, Rejection> {
     if !are_well_formed(shards) {
         return Err(Rejection::NotWellFormed);
     }
-    let mut counter = Counter::default();
-    tell(shards, &mut counter);
-    if out.len() < counter.0 {
-        return Err(Rejection::OutputShort);
-    }
+    measure(shards, out.len())?;
     let mut writer = Writer::new(out);
     tell(shards, &mut writer);
     Ok(writer.length())
+}
+
+/// Whether the text fits into so many bytes: rejection 8.
+pub(crate) fn measure(shards: &[Shard], room: usize) -> Result<(), Rejection> {
+    let mut counter = Counter::default();
+    tell(shards, &mut counter);
+    match counter.0 <= room {
+        true => Ok(()),
+        false => Err(Rejection::OutputShort),
+    }
 }
 
 pub(crate) fn tell(shards: &[Shard], text: &mut impl Text) {

@@ -17,7 +17,7 @@ mod learn;
 mod number;
 mod range;
 mod reader;
-mod replay;
+pub(crate) mod replay;
 mod seats;
 pub(crate) mod setup;
 pub(crate) mod stable;

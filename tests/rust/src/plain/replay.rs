@@ -19,26 +19,39 @@ impl State<'_> {
         budget: u64,
         mut tell: impl FnMut(&Self, Step, Result<(), Rejection>),
     ) -> Report {
-        let (mut at, mut tried, mut rejected) = (0, 0, 0);
-        let stop = loop {
-            if at >= log.len() {
-                break Stop::Ended;
-            }
-            if tried == budget {
-                break Stop::Spent;
-            }
-            match read_step(log, at) {
-                Ok(None) => break Stop::Ended,
-                Err(damage) => break Stop::Damaged(damage),
-                Ok(Some((step, after))) => {
-                    let answer = self.step(step);
-                    tell(self, step, answer);
-                    tried += 1;
-                    rejected += u64::from(answer.is_err());
-                    at = after;
-                }
-            }
-        };
-        Report { stop, tried, rejected, bytes: at as u64 }
+        run(log, budget, read_step, |step| {
+            let answer = self.step(step);
+            tell(self, step, answer);
+            answer
+        })
     }
+}
+
+/// Reads steps in order and tries each, as many as the budget allows.
+#[inline]
+pub(crate) fn run(
+    log: &[u8],
+    budget: u64,
+    read: impl Fn(&[u8], usize) -> Result<Option<(Step, usize)>, Rejection>,
+    mut try_step: impl FnMut(Step) -> Result<(), Rejection>,
+) -> Report {
+    let (mut at, mut tried, mut rejected) = (0, 0, 0);
+    let stop = loop {
+        if at >= log.len() {
+            break Stop::Ended;
+        }
+        if tried == budget {
+            break Stop::Spent;
+        }
+        match read(log, at) {
+            Ok(None) => break Stop::Ended,
+            Err(damage) => break Stop::Damaged(damage),
+            Ok(Some((step, after))) => {
+                tried += 1;
+                rejected += u64::from(try_step(step).is_err());
+                at = after;
+            }
+        }
+    };
+    Report { stop, tried, rejected, bytes: at as u64 }
 }

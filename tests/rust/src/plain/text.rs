@@ -44,7 +44,7 @@ impl<'a> Writer<'a> {
     }
 
     /// The next bytes of the buffer.
-    fn next(&mut self, length: usize) -> &mut [u8] {
+    pub(crate) fn next(&mut self, length: usize) -> &mut [u8] {
         let next = &mut self.out[self.at..][..length];
         self.at += length;
         next

@@ -2,8 +2,7 @@
 
 use super::state::check;
 use super::text::Writer;
-use crate::plain::csv::tell;
-use crate::plain::text::Counter;
+use crate::plain::csv::{measure, tell};
 use crate::rejection::Rejection;
 
 /// The header, and the longest row a shard and entry: no text of so many shards is longer.
@@ -15,11 +14,7 @@ const SHARD: usize = 1_278;
 pub fn csv(words: &[u64], out: &mut [u8]) -> Result<usize, Rejection> {
     let shards = check(words)?;
     if out.len() < HEADER + SHARD * shards.len() {
-        let mut counter = Counter::default();
-        tell(shards, &mut counter);
-        if out.len() < counter.0 {
-            return Err(Rejection::OutputShort);
-        }
+        measure(shards, out.len())?;
     }
     let mut writer = Writer::new(out);
     tell(shards, &mut writer);

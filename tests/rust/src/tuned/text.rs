@@ -1,5 +1,6 @@
 //! Text into a borrowed buffer, numbers two digits at a time.
 
+use crate::plain;
 use crate::plain::text::Text;
 
 /// The numbers 0 to 99, two digits each.
@@ -13,40 +14,29 @@ static PAIRS: [[u8; 2]; 100] = {
     pairs
 };
 
-/// Writes bytes to a buffer with room for them.
-pub struct Writer<'a> {
-    out: &'a mut [u8],
-    at: usize,
-}
+/// The plain writer but for numbers.
+pub struct Writer<'a>(plain::text::Writer<'a>);
 
 impl<'a> Writer<'a> {
     pub fn new(out: &'a mut [u8]) -> Writer<'a> {
-        Writer { out, at: 0 }
+        Writer(plain::text::Writer::new(out))
     }
 
     /// How many bytes were written.
     pub fn length(&self) -> usize {
-        self.at
-    }
-
-    /// The next bytes of the buffer.
-    #[inline]
-    fn next(&mut self, length: usize) -> &mut [u8] {
-        let next = &mut self.out[self.at..][..length];
-        self.at += length;
-        next
+        self.0.length()
     }
 }
 
 impl Text for Writer<'_> {
     #[inline]
     fn bytes(&mut self, bytes: &[u8]) {
-        self.next(bytes.len()).copy_from_slice(bytes);
+        self.0.bytes(bytes);
     }
 
     #[inline]
     fn number(&mut self, mut number: u64) {
-        let next = self.next(digits(number));
+        let next = self.0.next(digits(number));
         let mut end = next.len();
         while number >= 100 {
             end -= 2;

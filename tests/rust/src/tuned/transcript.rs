@@ -1,9 +1,11 @@
 //! The program's whole text.
 
+use super::reader::read_step;
 use super::state::State;
 use super::text::Writer;
 use crate::plain;
 use crate::plain::layout::SHARD_WORDS;
+use crate::plain::replay::run;
 use crate::plain::setup::write_all;
 use crate::plain::text::Text;
 use crate::plain::transcript::{
@@ -22,16 +24,17 @@ pub fn transcript(log: &[u8], out: &mut [u8]) -> Result<usize, Rejection> {
     let mut state = State(plain::State::scanned(shards));
     let mut writer = Writer::new(out);
     let mut number = 0;
-    let report = state.replay(log, BUDGET, |_, step, answer| {
+    let report = run(log, BUDGET, read_step, |step| {
+        let answer = state.step(step);
         number += 1;
         writer.number(number);
-        let answer = number_of(&answer) as u8;
-        let [kind, tens, ones] =
-            [step.kind as u8, answer / 10, answer % 10].map(|digit| b'0' + digit);
-        match answer {
+        let told = number_of(&answer) as u8;
+        let [kind, tens, ones] = [step.kind as u8, told / 10, told % 10].map(|digit| b'0' + digit);
+        match told {
             0..10 => writer.bytes(&[b' ', kind, b' ', ones, b'\n']),
             _ => writer.bytes(&[b' ', kind, b' ', tens, ones, b'\n']),
         }
+        answer
     });
     tell_shards(state.shards(), &mut writer);
     tell_last(&report, &mut writer);

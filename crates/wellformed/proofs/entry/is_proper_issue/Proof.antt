@@ -1,6 +1,6 @@
 -- `wellformed::entry::is_proper_issue` meets its contract.
 use native.Mathlib.Omega.{arith}
-use mathlib.Core.Path.{sym, _∙_}
+use mathlib.Core.Path.{sym}
 use borrow.Author.Tests.{lt-ltb, le-ltb}
 use Rattle.model.specs.Entries.{isProperIssue, issueMembers, issueOrderer}
 use Rattle.wellformed.proofs.Marks.{mark-low, mark-high, mark-between}
