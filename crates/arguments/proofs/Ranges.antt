@@ -1,21 +1,22 @@
 -- The tests of a step's numbers, by what its kind has.
 -- Assumes nothing.
 use Prim.Native.Nat.{ℕ, _≤_, _<_}
+use native.Mathlib.Omega.{arith}
 use mathlib.Core.Path.{_≡_, refl, sym, ap, _∙_}
-use mathlib.Core.Bool.{Bool, true, false, cond, not, _&&_, and-true, and-false}
+use mathlib.Core.Bool.{Bool, true, false, cond, not, and-true, and-false}
 use lib.Dec.{ltb}
 use borrow.Author.Tests.{le-leb, lt-leb, not-true, not-false}
 use Rattle.model.specs.declared.kind.Kind.{Kind}
 use Rattle.model.specs.declared.kind.Rules.{Rules}
 use Rattle.model.specs.declared.step.Step.{Step}
 use Rattle.model.specs.Checks.{firstOf}
-use Rattle.model.specs.Kinds.{kindOf, isKept, isUnknown, namesHost}
-use Rattle.model.specs.Rules.{kindRejection, Known, mostFourth, rulesOf}
+use Rattle.model.specs.Kinds.{kindOf, isKept, isUnknown, namesHost, kindRejection}
+use Rattle.model.specs.Rules.{Known, mostFourth, rulesOf}
 use Rattle.model.specs.Members.{isHost}
 use Rattle.model.specs.Entries.{isEntry}
-use Rattle.model.specs.Steps.{shardOf, areNumbers, inRange}
+use Rattle.model.specs.Steps.{shardOf, areNumbers}
 use Rattle.model.proofs.Rules.{rejection-told, known-told, numbers-by-rules}
-use Rattle.arguments.specs.Numbers.{isIndexOf, argumentRejection}
+use Rattle.arguments.specs.Numbers.{isIndexOf, rangeRejection}
 
 -- ---- the third and the fourth number of a kind k, whose rules are r
 
@@ -51,35 +52,47 @@ first-two false true n m = refl
 first-two false false n m = absurd (m refl)
 
 module _ (Z : ℕ) (s : Step) {k : Kind} {r : Rules} (o : k ≡ kindOf (s .kind)) (e : r ≡ rulesOf k) where
-  pub bad-kind : (r .rejection ≡ 0 → ⊥) → r .rejection ≡ argumentRejection Z s
-  unfolding argumentRejection firstOf kindRejection
+  pub bad-kind : (r .rejection ≡ 0 → ⊥) → r .rejection ≡ rangeRejection Z s
+  unfolding rangeRejection firstOf kindRejection
   bad-kind n =
       let q = rejection-told (s .kind) o e in
-      q ∙ first-two (isKept (kindOf (s .kind))) (isUnknown (kindOf (s .kind))) (cond (inRange Z s) 0 7) (λ m. n (q ∙ m))
+      q
+      ∙ first-two (isKept (kindOf (s .kind))) (isUnknown (kindOf (s .kind))) (cond (isIndexOf Z (shardOf s) (s .b)) 0 7) (λ m. n (q ∙ m))
 
-  module _ (z : r .rejection ≡ 0) where
-    pub known : Known k
-    known = rw o (known-told (s .kind) o e z)
+  -- z is the shard, and t the test of it and of the index
+  module _ (h : r .rejection ≡ 0) {z : ℕ} (a : z ≡ shardOf s) {t : Bool} (p : t ≡ isIndexOf Z z (s .b)) where
+    range-is : rangeRejection Z s ≡ cond t 0 7
+    unfolding rangeRejection firstOf
+    range-is =
+        let k = known-told (s .kind) o e h in
+        rw (p, a, k .notKept, k .known)
 
-    argument-is : argumentRejection Z s ≡ cond (inRange Z s) 0 7
-    unfolding argumentRejection firstOf
-    argument-is = rw (← o, known .notKept, known .known)
+    pub no-index : not t ≡ true → 7 ≡ rangeRejection Z s
+    no-index n = rw (range-is, not-true t n)
 
-    -- the test of the shard and of the index, t, and that of the numbers, u
-    module _ {t : Bool} (p : t ≡ isIndexOf Z (s .a) (s .b)) where
-      range-is : inRange Z s ≡ (t && areNumbers k Z (s .c) (s .d))
-      unfolding inRange isIndexOf shardOf
-      range-is = rw (p, o)
+    pub in-range : not t ≡ false → 0 ≡ rangeRejection Z s
+    in-range n = rw (range-is, not-false t n)
 
-      pub no-index : not t ≡ true → 7 ≡ argumentRejection Z s
-      no-index n = rw (argument-is, range-is, not-true t n)
+-- ---- a step that these rejections do not apply to
 
-      module _ (i : not t ≡ false) {u : Bool} (q : u ≡ areNumbers k Z (s .c) (s .d)) where
-        both-are : argumentRejection Z s ≡ cond u 0 7
-        both-are = rw (argument-is, range-is, not-false t i, ← q)
+no-number : (a b t : Bool) → _≡_ {A = ℕ} (cond a (cond b (cond t 0 7) 4) 3) 0 → (a ≡ true) × (b ≡ true) × (t ≡ true)
+no-number true true true e = (refl, refl, refl)
+no-number true true false e = absurd (omega arith)
+no-number true false t e = absurd (omega arith)
+no-number false b t e = absurd (omega arith)
 
-        pub no-numbers : not u ≡ true → 7 ≡ argumentRejection Z s
-        no-numbers n = rw (both-are, not-true u n)
+module _ (Z : ℕ) (s : Step) (e : rangeRejection Z s ≡ 0) where
+  passed :
+      (not (isKept (kindOf (s .kind))) ≡ true) × (not (isUnknown (kindOf (s .kind))) ≡ true) × (isIndexOf Z (shardOf s) (s .b) ≡ true)
+  unfolding rangeRejection firstOf
+  passed = no-number (not (isKept (kindOf (s .kind)))) (not (isUnknown (kindOf (s .kind)))) (isIndexOf Z (shardOf s) (s .b)) e
 
-        pub all-numbers : not u ≡ false → 0 ≡ argumentRejection Z s
-        all-numbers n = rw (both-are, not-false u n)
+  pub known : Known (kindOf (s .kind))
+  known =
+      record {
+        notKept = not-true (isKept (kindOf (s .kind))) (passed .0);
+        known = not-true (isUnknown (kindOf (s .kind))) (passed .1);
+      }
+
+  pub index : isIndexOf Z (shardOf s) (s .b) ≡ true
+  index = passed .2

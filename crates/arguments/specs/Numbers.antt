@@ -6,17 +6,17 @@ use lib.Dec.{leb, ltb}
 use Rattle.model.specs.declared.step.Step.{Step}
 use Rattle.model.specs.Checks.{firstOf, _orElse_}
 use Rattle.model.specs.Kinds.{kindOf, isKept, isUnknown}
-use Rattle.model.specs.Steps.{inRange}
+use Rattle.model.specs.Steps.{shardOf}
 
 -- "zone not below Z, index not 1 to 8": passes for a shard and an index that are in range
 unfoldable pub isIndexOf : ℕ → ℕ → ℕ → Bool
 isIndexOf Z z i = ltb z Z && leb 1 i && leb i 8
 
--- rejections 3, 4 and 7, which need no more of the state than its shard count
-unfoldable pub argumentRejection : ℕ → Step → ℕ
-argumentRejection Z s =
+-- rejections 3, 4 and 7 of a step's kind, shard and index; 0 where none applies
+unfoldable pub rangeRejection : ℕ → Step → ℕ
+rangeRejection Z s =
     firstOf
     (not (isKept (kindOf (s .kind))) orElse 3
     ∷ not (isUnknown (kindOf (s .kind))) orElse 4
-    ∷ inRange Z s orElse 7
+    ∷ isIndexOf Z (shardOf s) (s .b) orElse 7
     ∷ [])

@@ -1,11 +1,10 @@
 // The numbers of a step: which kinds are kept or unknown, and which numbers are out of range. No state is needed for this but its number of shards.
 use model::kind::Kind;
+use model::step::Step;
 ghost use mathlib.Core.Path.{_≡_};
-ghost use mathlib.Core.List.{[], _∷_};
-ghost use Rattle.model.specs.Log.{stepOf};
 ghost use Rattle.model.specs.Rules.{Known};
 ghost use Rattle.model.specs.Steps.{areNumbers};
-ghost use Rattle.arguments.specs.Numbers.{isIndexOf, argumentRejection};
+ghost use Rattle.arguments.specs.Numbers.{isIndexOf, rangeRejection};
 
 // Whether a shard and an index are in range.
 pub fn is_index_of(shards: usize, shard: u64, index: u64) -> bool
@@ -20,7 +19,7 @@ pub fn is_index_of(shards: usize, shard: u64, index: u64) -> bool
     index <= 8
 }
 
-// Whether the third and fourth number suit a kind: the third is a host or an entry, the fourth is 0 where it is not used.
+// Whether the third and fourth number suit a kind: the third is a host or an entry, the fourth is at most the kind's largest, 0 where it is not used.
 pub fn are_numbers(kind: Kind, shards: usize, c: u64, d: u64) -> bool
     requires { ⌜ Known kind ⌝ }
     ensures { λ r. ⌜ r ≡ areNumbers kind shards c d ⌝ }
@@ -35,19 +34,15 @@ pub fn are_numbers(kind: Kind, shards: usize, c: u64, d: u64) -> bool
     wellformed::entry::is_entry(shards, c)
 }
 
-// Rejections 3, 4 and 7 of a step of these numbers, where there are `shards` shards; 0 where none applies.
-pub fn numbers_rejection(shards: usize, number: u64, a: u64, b: u64, c: u64, d: u64) -> u64
-    ensures { λ r. ⌜ r ≡ argumentRejection shards (stepOf number (a ∷ b ∷ c ∷ d ∷ [])) ⌝ }
+// Rejections 3, 4 and 7 of a step's kind, shard and index, where there are `shards` shards; 0 where none applies.
+pub fn range_rejection(shards: usize, s: Step) -> u64
+    ensures { λ r. ⌜ r ≡ rangeRejection shards s ⌝ }
 {
-    let kind = Kind::of(number);
-    let bad = kind.rules().rejection;
+    let bad = Kind::of(s.kind).rules().rejection;
     if bad != 0 {
         return bad;
     }
-    if !is_index_of(shards, a, b) {
-        return 7;
-    }
-    if !are_numbers(kind, shards, c, d) {
+    if !is_index_of(shards, s.shard(), s.b) {
         return 7;
     }
     0

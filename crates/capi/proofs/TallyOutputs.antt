@@ -42,7 +42,8 @@ module _ (out : List ℕ) (room : 17 ≤ length out) where
         let same : take 16 h ≡ h = take-all 16 h (omega (arith, long)) in
         let fits : 16 < length out = omega (arith, room) in
         let is : l ≡ h ++ (getD out 16 0 ∷ drop 17 out) =
-        e ∙ ap (λ (x : List ℕ). x ++ drop (length x) out) same ∙ ap (λ (n : ℕ). h ++ drop n out) long ∙ ap (λ (x : List ℕ). h ++ x) (drop-cons out 16 0 fits) in
+        e ∙ ap (λ (x : List ℕ). x ++ drop (length x) out) same ∙ ap (λ (n : ℕ). h ++ drop n out) long
+        ∙ ap (λ (x : List ℕ). h ++ x) (drop-cons out 16 0 fits) in
         let fit : length (h ++ t .none ∷ []) ≤ length out = omega (arith, words-long, room) in
         ap (λ (x : List ℕ). set x 16 (t .none)) is
         ∙ ap (λ (n : ℕ). set (h ++ (getD out 16 0 ∷ drop 17 out)) n (t .none)) (sym long)

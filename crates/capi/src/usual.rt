@@ -15,7 +15,7 @@ pub fn put_short(step: &mut [u64], log: &[u8], at: usize)
     ensures { λ _. ⌜ now (step .exit) ≡ sets (now (step .entry)) 0 (stepWords (shortStep (now (log .entry)) at) (at + shortLength (now (log .entry)) at)) ⌝ }
 {
     let s = log::short::step(log, at);
-    let next = at + log::short::length(log, at);
+    let next = at + log::short::byte_count(log, at);
     put_step(step, s.kind, s.a, s.b, s.c, s.d, next as u64);
 }
 
@@ -25,6 +25,6 @@ pub fn put_long_add(step: &mut [u64], log: &[u8], at: usize)
     ensures { λ _. ⌜ now (step .exit) ≡ sets (now (step .entry)) 0 (stepWords (longStep (now (log .entry)) at) (at + longLength (now (log .entry)) at)) ⌝ }
 {
     let s = log::long::step(log, at);
-    let next = at + log::long::length(log, at);
+    let next = at + log::long::byte_count(log, at);
     put_step(step, s.kind, s.a, s.b, s.c, s.d, next as u64);
 }

@@ -25,7 +25,7 @@ fn smaller(a: u64, b: u64) -> u64
     if a < b { a } else { b }
 }
 
-// A host adopts its orderer's history: 0 and the replica changed, or the rejection (10, 11, 14, 12, 13) and the state as it was.
+// A host adopts its orderer's history: 0 and the replica changed, or the rejection (7, 10, 11, 14, 12, 13) and the state as it was.
 pub fn adopt(state: &mut [u64], shards: usize, z: usize, j: usize, host: u64, d: u64) -> u64
     requires { ⌜ ReadyKind (now state) shards z j ⌝ }
     ensures { λ r. ⌜ r ≡ kindAnswer (Kind.Adopt) (now (state .entry)) z j host d ⌝ }

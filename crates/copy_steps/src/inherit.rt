@@ -9,7 +9,7 @@ use model::layout::STABLE;
 ghost use mathlib.Core.Path.{_≡_};
 ghost use Rattle.lookup.specs.Kinds.{ReadyKind, kindAnswer, kindAfter};
 
-// A host inherits the history of a source: 0 and the replica active, or the rejection (10, 11, 12, 13) and the state as it was.
+// A host inherits the history of a source: 0 and the replica active, or the rejection (7, 10, 11, 12, 13) and the state as it was.
 pub fn inherit(state: &mut [u64], shards: usize, z: usize, j: usize, host: u64, source: u64) -> u64
     requires { ⌜ ReadyKind (now state) shards z j ⌝ }
     ensures { λ r. ⌜ r ≡ kindAnswer (Kind.Inherit) (now (state .entry)) z j host source ⌝ }

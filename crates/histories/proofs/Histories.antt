@@ -15,7 +15,7 @@ use Rattle.model.specs.StableHistory.{stableHistory}
 use Rattle.histories.specs.declared.Listing.{Listing}
 use Rattle.histories.specs.declared.Listing.the-variants.{Rejected}
 use Rattle.histories.specs.Listing.{listingNumber, listingCount}
-use Rattle.histories.specs.Entries.{copying, afterCopying}
+use Rattle.histories.specs.Entries.{copyingRejection, copying, afterCopying}
 use Rattle.histories.specs.History.{listingRejection, listedCount, listing, afterListing, longestPlace, OfShard}
 use Rattle.histories.proofs.Longest.{picked-entries}
 use Rattle.histories.proofs.Listings.{rejects, told}
@@ -60,7 +60,7 @@ module _ (w : List ℕ) (z : ℕ) (out : List ℕ) where
   -- the tests passed leave that of the room, for the entries of the replica that the pick finds
   module _ (s : OfShard w z) {p : ℕ} (e : p ≡ longestPlace w z 31) where
     pub lists : (copying w p out ≡ listing w z out) × (afterCopying w p out ≡ afterListing w z out)
-    unfolding copying afterCopying listing afterListing listingRejection firstOf isStateLength
+    unfolding copying afterCopying copyingRejection listing afterListing listingRejection firstOf isStateLength
     lists =
         let long = le-leb 2 (shardsOf (length w)) (s .formed .several) in
         let below = lt-ltb z (shardsOf (length w)) (s .shard) in

@@ -12,7 +12,7 @@ use Rattle.model.specs.Results.{countBeside}
 use Rattle.histories.specs.declared.Listing.{Listing}
 use Rattle.histories.specs.declared.Listing.the-variants.{Entries, Rejected}
 use Rattle.histories.specs.Listing.{hasRoom, listingOf, afterListingOf, listingNumber, listingCount}
-use Rattle.histories.specs.Entries.{entriesAt, HasEntries, copying, afterCopying}
+use Rattle.histories.specs.Entries.{entriesAt, HasEntries, copyingRejection, copiedCount, copying, afterCopying}
 use Rattle.histories.proofs.Stable.{entries-part, entries-length}
 
 -- a rejection is told, and leaves the output
@@ -32,6 +32,12 @@ told {r} {v} k l out e f = go (eqb k 0) refl
     go true q = (ap listingNumber e ∙ rw q (sym (eqb-true k 0 q)), (ap listingCount e ∙ rw q, (e, f)))
     go false q = (ap listingNumber e ∙ rw q, (ap listingCount e ∙ rw q, (e, f)))
 
+pub copied : {r : Listing} {v : List ℕ} (w : List ℕ) (p : ℕ) (out : List ℕ) → r ≡ copying w p out → v ≡ afterCopying w p out
+    → (listingNumber r ≡ copyingRejection w p out)
+    × ((listingCount r ≡ copiedCount w p out) × ((r ≡ copying w p out) × (v ≡ afterCopying w p out)))
+unfolding copying afterCopying copiedCount
+copied w p out e f = told (copyingRejection w p out) (entriesAt w p) out e f
+
 module _ (w : List ℕ) (p : ℕ) (out : List ℕ) (h : HasEntries w p) where
   -- how many entries there are
   abbrev count : ℕ
@@ -41,7 +47,7 @@ module _ (w : List ℕ) (p : ℕ) (out : List ℕ) (h : HasEntries w p) where
   many = entries-length w p (h .fits) (h .few)
 
   pub rejects-room : length out < count → (Rejected 8 ≡ copying w p out) × (out ≡ afterCopying w p out)
-  unfolding copying afterCopying firstOf hasRoom
+  unfolding copying afterCopying copyingRejection firstOf hasRoom
   rejects-room r = rejects 8 (entriesAt w p) out (λ e. omega arith) (rw (many, lt-leb count (length out) r))
 
   -- the words that the loop copies
@@ -49,5 +55,5 @@ module _ (w : List ℕ) (p : ℕ) (out : List ℕ) (h : HasEntries w p) where
   words = take (p + 8 + count - (p + 8)) (drop (p + 8) w)
 
   pub copies : count ≤ length out → (Entries count ≡ copying w p out) × (words ++ drop (length words) out ≡ afterCopying w p out)
-  unfolding copying afterCopying listingOf afterListingOf firstOf hasRoom
+  unfolding copying afterCopying copyingRejection listingOf afterListingOf firstOf hasRoom
   copies r = (simp (many, le-leb count (length out) r), simp (entries-part w p, many, le-leb count (length out) r))

@@ -12,7 +12,7 @@ use Rattle.lookup.specs.declared.Seat.{Seat}
 use Rattle.histories.specs.declared.Listing.{Listing}
 use Rattle.histories.specs.declared.Listing.the-variants.{Rejected}
 use Rattle.histories.specs.Listing.{hasRoom, listingNumber, listingCount}
-use Rattle.histories.specs.Entries.{entriesAt, HasEntries, copying, afterCopying}
+use Rattle.histories.specs.Entries.{entriesAt, HasEntries, copyingRejection, copying, afterCopying}
 use Rattle.histories.specs.Seats.{seatChecks, seatNamed}
 use Rattle.histories.specs.Prefix.{shown, prefixRejection, prefixCount, prefixListing, afterPrefix}
 use Rattle.histories.proofs.Stable.{Settled, host-settled}
@@ -65,5 +65,5 @@ module _ (w : List ℕ) (z i h : ℕ) (out : List ℕ) {r : Seat} (e : r ≡ sea
         first-after (seatChecks w z i h) (hasRoom (shown w z i h) out ∷ []) (passed (seatChecks w z i h) refl (sym answer-is ∙ q))
 
     pub shows : (copying w (r .place) out ≡ prefixListing w z i h out) × (afterCopying w (r .place) out ≡ afterPrefix w z i h out)
-    unfolding copying afterCopying prefixListing afterPrefix
+    unfolding copying afterCopying copyingRejection prefixListing afterPrefix
     shows = (rw (shown-is, room-left), rw (shown-is, room-left))

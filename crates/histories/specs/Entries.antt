@@ -5,6 +5,7 @@ use lib.ListN.{length, getD, take, drop}
 use Rattle.model.specs.Checks.{firstOf}
 use Rattle.model.specs.Replicas.{mostEntries}
 use Rattle.model.specs.Layout.{partWords}
+use Rattle.model.specs.Results.{countBeside}
 use Rattle.histories.specs.declared.Listing.{Listing}
 use Rattle.histories.specs.Listing.{hasRoom, listingOf, afterListingOf}
 
@@ -17,9 +18,18 @@ pub record HasEntries (w : List ℕ) (at : ℕ) : Type 0 where
   pub fits : at + partWords ≤ length w
   pub few : getD w (at + 2) 0 ≤ mostEntries
 
--- what copying them to an output answers and leaves, rejection 8 being the only one
-unfoldable pub copying : List ℕ → ℕ → List ℕ → Listing
-copying w at out = listingOf (firstOf (hasRoom (entriesAt w at) out ∷ [])) (entriesAt w at)
+-- copying them to an output: rejection 8 is the only one
+unfoldable pub copyingRejection : List ℕ → ℕ → List ℕ → ℕ
+copyingRejection w at out = firstOf (hasRoom (entriesAt w at) out ∷ [])
 
+-- how many are copied, 0 at the rejection
+unfoldable pub copiedCount : List ℕ → ℕ → List ℕ → ℕ
+copiedCount w at out = countBeside (copyingRejection w at out) (entriesAt w at)
+
+-- both as one answer
+unfoldable pub copying : List ℕ → ℕ → List ℕ → Listing
+copying w at out = listingOf (copyingRejection w at out) (entriesAt w at)
+
+-- what is left of the output
 unfoldable pub afterCopying : List ℕ → ℕ → List ℕ → List ℕ
-afterCopying w at out = afterListingOf (firstOf (hasRoom (entriesAt w at) out ∷ [])) (entriesAt w at) out
+afterCopying w at out = afterListingOf (copyingRejection w at out) (entriesAt w at) out

@@ -6,11 +6,14 @@ ghost use mathlib.Core.Path.{_≡_};
 ghost use mathlib.Core.List.{_++_};
 ghost use Prim.Native.Nat.{_≤_};
 ghost use lib.ListN.{length, drop};
-ghost use Rattle.histories.specs.Entries.{HasEntries, copying, afterCopying};
+ghost use Rattle.histories.specs.Listing.{listingNumber, listingCount};
+ghost use Rattle.histories.specs.Entries.{HasEntries, copyingRejection, copiedCount, copying, afterCopying};
 
 // The stable prefix of the replica at a place: how many entries were copied, or rejection 8 and the output untouched.
 pub fn copy_entries(state: &[u64], place: usize, out: &mut [u64]) -> Listing
     requires { ⌜ HasEntries (now state) place ⌝ }
+    ensures { λ r. ⌜ listingNumber r ≡ copyingRejection (now (state .entry)) place (now (out .entry)) ⌝ }
+    ensures { λ r. ⌜ listingCount r ≡ copiedCount (now (state .entry)) place (now (out .entry)) ⌝ }
     ensures { λ r. ⌜ r ≡ copying (now (state .entry)) place (now (out .entry)) ⌝ }
     ensures { λ _. ⌜ now (out .exit) ≡ afterCopying (now (state .entry)) place (now (out .entry)) ⌝ }
 {

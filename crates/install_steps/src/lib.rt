@@ -1,5 +1,5 @@
 // Kind 5, install: the next configuration of a shard, issued in the history of its sequencer. No entry point: the state is known to be well-formed,
-// and the step's numbers are in range.
+// and the step's shard and index to be in range. The third and the fourth number are tested here (7).
 use crate::issues::is_issue_for;
 use crate::next::install_next;
 use crate::wedged::is_newest_wedged;
@@ -31,7 +31,7 @@ fn issuer(state: &[u64], z: usize, j: usize, host: u64) -> Seat
     lookup::find(state, y, j, host)
 }
 
-// Installs what a place of the issuer's history has: 0 and the next configuration pending, or the rejection (10, 11, 20, 21, 24, 22) and the state as it
+// Installs what a place of the issuer's history has: 0 and the next configuration pending, or the rejection (7, 10, 11, 20, 21, 24, 22) and the state as it
 // was.
 pub fn install(state: &mut [u64], shards: usize, z: usize, j: usize, host: u64, place: u64) -> u64
     requires { ⌜ ReadyKind (now state) shards z j ⌝ }

@@ -11,12 +11,12 @@ use borrow.Author.Tests.{le-leb, lt-leb, ltb-true, ne-eqb}
 use Rattle.model.specs.declared.Writing.the-variants.{Bytes, Rejected}
 use Rattle.model.specs.declared.step.Step.{Step}
 use Rattle.model.specs.Checks.{firstOf}
-use Rattle.model.specs.Kinds.{kindOf, isKept, isUnknown, usedNumbers}
+use Rattle.model.specs.Kinds.{kindOf, isKept, isUnknown, usedNumbers, kindRejection}
 use Rattle.model.specs.Writer.{isWritable, areWritable, stepBytes, writeRejection, writing, afterWriting}
 use Rattle.model.proofs.RoundTrip.{kind-below}
 use Rattle.model.proofs.Tests.{all-pass}
-use Rattle.model.specs.Rules.{kindRejection, Known}
-use Rattle.log.specs.Writer.{writable, bytesOf, Room}
+use Rattle.model.specs.Rules.{Known}
+use Rattle.log.specs.Writer.{writable, bytesOf, StepRoom}
 use Rattle.log.proofs.StepBytes.{bytes-used}
 
 -- how many numbers a step uses
@@ -61,7 +61,7 @@ module _ (out : List ℕ) (at : ℕ) (s : Step) where
           let full = lt-leb (at + length (stepBytes s)) (length out) (rw (bytes-used s k) at h) in
           refused 8 (rw (k .notKept, k .known, w, full)) (λ z. omega arith)
 
-      pub room : at + length (bytesOf s (usedBy s)) ≤ length out → Room out at s (usedBy s)
+      pub room : at + length (bytesOf s (usedBy s)) ≤ length out → StepRoom out at s (usedBy s)
       unfolding writable isWritable
       room h =
           let p = all-pass (isWritable (s .a)) (isWritable (s .b) ∷ isWritable (s .c) ∷ isWritable (s .d) ∷ _ ∷ []) w in

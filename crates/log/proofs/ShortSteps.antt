@@ -18,7 +18,7 @@ use Rattle.model.specs.Tests.{allBelow}
 use Rattle.model.proofs.Joined.{or-below}
 use Rattle.model.proofs.Rules.{fourth-most}
 use Rattle.model.proofs.Tests.{Passing, all-pass, all-below}
-use Rattle.log.specs.Reader.{stepAfter}
+use Rattle.log.specs.Reader.{withPrior}
 use Rattle.log.specs.Short.{isShortAt, shortFourth, shortLength, shortStep}
 use Rattle.log.proofs.FirstByte.{read-one, read-one-after}
 use Rattle.log.proofs.StepParts.{step-more, step-done, three-numbers, step-at}
@@ -86,7 +86,7 @@ module _ (l : List ℕ) (at : ℕ) where
     rest :
         (k f a b c : ℕ) → f ≤ 1
         → Read (stepOf k (a ∷ b ∷ c ∷ getD l (at + 4) 0 * f ∷ [])) (4 + f)
-        ≡ stepAfter k (a ∷ b ∷ c ∷ []) 4 (readNumbers f (drop 4 (drop at l)))
+        ≡ withPrior k (a ∷ b ∷ c ∷ []) 4 (readNumbers f (drop 4 (drop at l)))
     unfolding stepOf
     rest k zero a b c m =
         let z : getD l (at + 4) 0 * 0 ≡ 0 = omega arith in

@@ -1,7 +1,8 @@
 -- A step is read number by number. Assumes nothing.
 use Prim.Native.Nat.{ℕ, suc, _+_, _≤_, _<_}
+use native.Mathlib.Nat.{zero-add}
 use native.Mathlib.Omega.{arith}
-use mathlib.Core.Path.{_≡_, refl, sym, _∙_}
+use mathlib.Core.Path.{_≡_, refl, sym, ap, _∙_}
 use mathlib.Core.Bool.{Bool, true, false, cond}
 use mathlib.Core.List.{List, [], _∷_, _++_, append-assoc, append-nil}
 use lib.ListN.{length, drop, length-drop, drop-of-length-le}
@@ -11,21 +12,21 @@ use Rattle.model.specs.declared.Number.the-variants.{Value, Rejected as NotNumb
 use Rattle.model.specs.declared.Reading.{Reading}
 use Rattle.model.specs.declared.Reading.the-variants.{Step as Read, End, Rejected}
 use Rattle.model.specs.declared.step.Step.{Step}
-use Rattle.model.specs.Kinds.{kindOf, isKept, isUnknown}
+use Rattle.model.specs.Kinds.{kindOf, isKept, isUnknown, kindRejection}
 use Rattle.model.specs.Log.{stepOf, afterNumbers, afterKind, readStep, readAt, from}
 use Rattle.model.specs.Numbers.{Numbers, values, rejected, readNumber, readNumbers, afterFirst, withFirst}
 use Rattle.model.proofs.Numbers.{number-bytes-least, number-within}
 use Rattle.model.proofs.RoundTrip.{step-least, step-within}
-use Rattle.model.specs.Rules.{kindRejection, Known, fourthNumbers}
+use Rattle.model.specs.Rules.{Known, fourthNumbers}
 use Rattle.model.proofs.Rules.{used-fourth}
-use Rattle.log.specs.Reader.{stepAfter, kindAt}
+use Rattle.log.specs.Reader.{withPrior, kindAt}
 
 -- ---- one number
 
 -- a first number goes to the numbers before it
 first-moves :
-    (k : ℕ) (prior : List ℕ) (at v n : ℕ) (r : Numbers) → stepAfter k prior at (withFirst v n r) ≡ stepAfter k (prior ++ v ∷ []) (at + n) r
-unfolding stepAfter withFirst
+    (k : ℕ) (prior : List ℕ) (at v n : ℕ) (r : Numbers) → withPrior k prior at (withFirst v n r) ≡ withPrior k (prior ++ v ∷ []) (at + n) r
+unfolding withPrior withFirst
 first-moves k prior at v n (values vs m) =
     let next : at + (n + m) ≡ at + n + m = omega arith in
     rw (append-assoc prior (v ∷ []) vs, next)
@@ -35,19 +36,19 @@ first-moves k prior at v n (rejected r) = refl
 module _ (k : ℕ) (prior log : List ℕ) (at : ℕ) {x : Number} (p : x ≡ readNumber (drop at log)) where
   pub step-more :
       (count : ℕ) {v n : ℕ} → x ≡ Value v n → {r : Reading}
-      → r ≡ stepAfter k (prior ++ v ∷ []) (at + n) (readNumbers count (drop (at + n) log))
-      → r ≡ stepAfter k prior at (readNumbers (suc count) (drop at log))
+      → r ≡ withPrior k (prior ++ v ∷ []) (at + n) (readNumbers count (drop (at + n) log))
+      → r ≡ withPrior k prior at (readNumbers (suc count) (drop at log))
   unfolding readNumbers afterFirst
   step-more count {v} {n} q e =
       rw (← p, q, drop-drop n at log, first-moves k prior at v n (readNumbers count (drop (at + n) log))) e
 
   pub step-rejected :
-      (count : ℕ) {r : ℕ} → x ≡ NotNumber r → Rejected r ≡ stepAfter k prior at (readNumbers (suc count) (drop at log))
-  unfolding readNumbers afterFirst stepAfter
+      (count : ℕ) {r : ℕ} → x ≡ NotNumber r → Rejected r ≡ withPrior k prior at (readNumbers (suc count) (drop at log))
+  unfolding readNumbers afterFirst withPrior
   step-rejected count q = rw (← p, q)
 
-pub step-done : (k : ℕ) (prior log : List ℕ) (at : ℕ) → Read (stepOf k prior) at ≡ stepAfter k prior at (readNumbers 0 (drop at log))
-unfolding readNumbers stepAfter
+pub step-done : (k : ℕ) (prior log : List ℕ) (at : ℕ) → Read (stepOf k prior) at ≡ withPrior k prior at (readNumbers 0 (drop at log))
+unfolding readNumbers withPrior
 step-done k prior log at = let here : at + 0 ≡ at = omega arith in rw (append-nil prior, here)
 
 -- a number lies within the log, so the position after it fits
@@ -58,8 +59,8 @@ number-inside log at p q =
 
 -- ---- the kind
 
-numbers-first : (k n : ℕ) (r : Numbers) → afterNumbers k n r ≡ stepAfter k [] n r
-unfolding afterNumbers stepAfter
+numbers-first : (k n : ℕ) (r : Numbers) → afterNumbers k n r ≡ withPrior k [] n r
+unfolding afterNumbers withPrior
 numbers-first k n (values vs m) = refl
 numbers-first k n (rejected r) = refl
 
@@ -80,7 +81,7 @@ module _ (log : List ℕ) (at k : ℕ) where
 
   pub kind-taken :
       Known (kindOf k) → {r : Reading}
-      → r ≡ stepAfter k [] at (readNumbers (suc (suc (suc (fourthNumbers k)))) (drop at log))
+      → r ≡ withPrior k [] at (readNumbers (suc (suc (suc (fourthNumbers k)))) (drop at log))
       → r ≡ kindAt log at k
   unfolding kindAt
   kind-taken h e = rw (h .notKept, h .known, used-fourth k h) e
@@ -111,7 +112,7 @@ module _
     (pb : readNumber (drop 2 log) ≡ Value b 1) (pc : readNumber (drop 3 log) ≡ Value c n)
   where
     pub three-numbers :
-        {r : Reading} → r ≡ stepAfter k (a ∷ b ∷ c ∷ []) (3 + n) (readNumbers (fourthNumbers k) (drop (3 + n) log)) → r ≡ readStep log
+        {r : Reading} → r ≡ withPrior k (a ∷ b ∷ c ∷ []) (3 + n) (readNumbers (fourthNumbers k) (drop (3 + n) log)) → r ≡ readStep log
     three-numbers e =
         let f : ℕ = fourthNumbers k in
         first-kind log (omega (arith, number-within log pk)) refl pk
@@ -142,3 +143,14 @@ module _ (log : List ℕ) (at : ℕ) where
   pub step-at : {s : Step} {n : ℕ} → readStep (drop at log) ≡ Read s n → readAt log at ≡ Read s (at + n)
   unfolding readAt from
   step-at e = rw e
+
+-- at the start of a log, the position after a step is the count of its bytes
+from-start : (r : Reading) → from 0 r ≡ r
+unfolding from
+from-start (Read s n) = ap (Read s) (zero-add n)
+from-start End = refl
+from-start (Rejected r) = refl
+
+pub read-start : (log : List ℕ) → readAt log 0 ≡ readStep log
+unfolding readAt
+read-start log = from-start (readStep log)

@@ -10,12 +10,12 @@ use Rattle.model.specs.Log.{stepOf}
 use Rattle.model.specs.Numbers.{Numbers, values, rejected, readNumbers}
 
 -- the step of kind k with the numbers `prior` and those read at a position, with the position after them
-unfoldable pub stepAfter : ℕ → List ℕ → ℕ → Numbers → Reading
-stepAfter k prior at (values vs m) = Read (stepOf k (prior ++ vs)) (at + m)
-stepAfter k prior at (rejected r) = Rejected r
+unfoldable pub withPrior : ℕ → List ℕ → ℕ → Numbers → Reading
+withPrior k prior at (values vs m) = Read (stepOf k (prior ++ vs)) (at + m)
+withPrior k prior at (rejected r) = Rejected r
 
 -- what is read at a position where a step's kind was read before it
 unfoldable pub kindAt : List ℕ → ℕ → ℕ → Reading
 kindAt log at k =
     cond (isKept (kindOf k)) (Rejected 3)
-    (cond (isUnknown (kindOf k)) (Rejected 4) (stepAfter k [] at (readNumbers (usedNumbers (kindOf k)) (drop at log))))
+    (cond (isUnknown (kindOf k)) (Rejected 4) (withPrior k [] at (readNumbers (usedNumbers (kindOf k)) (drop at log))))

@@ -21,7 +21,7 @@ bytesOf s used =
     ++ (numberBytes (s .b) ++ (numberBytes (s .c) ++ cond (leb 4 used) (numberBytes (s .d)) [])))
 
 -- the step can be written at the position: its numbers are small, and the output has room
-pub record Room (out : List ℕ) (at : ℕ) (s : Step) (used : ℕ) : Type 0 where
+pub record StepRoom (out : List ℕ) (at : ℕ) (s : Step) (used : ℕ) : Type 0 where
   pub kind : s .kind < 2 ^ 35
   pub a : s .a < 2 ^ 35
   pub b : s .b < 2 ^ 35

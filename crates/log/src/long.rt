@@ -1,11 +1,14 @@
 // Adds whose entry may have several bytes, as the words of issues and of larger takes have. No branch depends on how many: a byte below 128 takes the
 // bytes after it out of the number.
+use model::Reading;
 use model::step::Step;
 ghost use mathlib.Core.Path.{_≡_};
 ghost use mathlib.Core.Bool.{true, cond};
 ghost use Prim.Native.Nat.{suc, _+_, _*_, _%_, _^_, _≤_, _<_};
 ghost use lib.Dec.{ltb};
-ghost use lib.ListN.{length, getD};
+ghost use lib.ListN.{length, getD, drop};
+ghost use Rattle.model.specs.Log.{readAt};
+ghost use Rattle.model.specs.Results.{readingNumber, readingStep, readingNext, readRejection, stepRead, nextRead};
 ghost use Rattle.log.specs.Long.{lastByte, entryBytes, isLongAddAt, longEntry, longLength, longStep};
 
 // The number that begins with a byte, where `rest` is the number that the bytes after it would be.
@@ -36,7 +39,7 @@ fn counted(b: u64, rest: usize) -> usize
 }
 
 // How many bytes an add at a position has.
-pub fn length(log: &[u8], at: usize) -> usize
+pub fn byte_count(log: &[u8], at: usize) -> usize
     requires { ⌜ isLongAddAt (now log) at ≡ true ⌝ }
     ensures { λ r. ⌜ r ≡ longLength (now (log .entry)) at ⌝ }
 {
@@ -95,5 +98,20 @@ pub fn step(log: &[u8], at: usize) -> Step
         b: log[at + 2] as u64,
         c: entry(log, at),
         d: 0,
+    }
+}
+
+// What is read there: the step, and the position after it.
+pub fn reading(log: &[u8], at: usize) -> Reading
+    requires { ⌜ isLongAddAt (now log) at ≡ true ⌝ }
+    ensures { λ r. ⌜ readingNumber r ≡ readRejection (drop at (now (log .entry))) ⌝ }
+    ensures { λ r. ⌜ readingStep r ≡ stepRead (drop at (now (log .entry))) ⌝ }
+    ensures { λ r. ⌜ readingNext r ≡ nextRead (now (log .entry)) at ⌝ }
+    ensures { λ r. ⌜ r ≡ readAt (now (log .entry)) at ⌝ }
+{
+    let next = at + byte_count(log, at);
+    Reading::Step {
+        step: step(log, at),
+        next,
     }
 }

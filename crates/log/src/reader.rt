@@ -1,7 +1,6 @@
 // Steps from bytes: a kind, then the numbers that it uses, each read at its position.
 use crate::number::read_number;
-use crate::short::is_short;
-use crate::short::short_step;
+use crate::short;
 use model::Number;
 use model::Reading;
 use model::kind::Kind;
@@ -14,7 +13,7 @@ ghost use Rattle.model.specs.Numbers.{readNumbers};
 ghost use Rattle.model.specs.Log.{readAt, readStep};
 ghost use Rattle.model.specs.Results.{readingNumber, readingStep, readingNext, readRejection, stepRead, bytesRead, nextRead};
 ghost use Rattle.model.specs.Rules.{fourthNumbers};
-ghost use Rattle.log.specs.Reader.{stepAfter, kindAt};
+ghost use Rattle.log.specs.Reader.{withPrior, kindAt};
 
 // The step at a position of a log: the rejection, the step, and the position after it.
 pub fn read_step(log: &[u8], at: usize) -> Reading
@@ -44,8 +43,8 @@ pub fn first_step(log: &[u8]) -> Reading
     ensures { λ r. ⌜ readingNext r ≡ bytesRead (now (log .entry)) ⌝ }
     ensures { λ r. ⌜ r ≡ readStep (now (log .entry)) ⌝ }
 {
-    if is_short(log, 0) {
-        return short_step(log);
+    if short::is_short(log, 0) {
+        return short::reading(log, 0);
     }
     any_step(log)
 }
@@ -75,7 +74,7 @@ fn after_kind(log: &[u8], at: usize, kind: u64) -> Reading
 }
 
 fn read_a(log: &[u8], at: usize, kind: u64) -> Reading
-    ensures { λ r. ⌜ r ≡ stepAfter kind [] at (readNumbers (suc (suc (suc (fourthNumbers kind)))) (drop at (now (log .entry)))) ⌝ }
+    ensures { λ r. ⌜ r ≡ withPrior kind [] at (readNumbers (suc (suc (suc (fourthNumbers kind)))) (drop at (now (log .entry)))) ⌝ }
 {
     match read_number(log, at) {
         Number::Value { value, bytes } => read_b(log, at + bytes, kind, value),
@@ -84,7 +83,7 @@ fn read_a(log: &[u8], at: usize, kind: u64) -> Reading
 }
 
 fn read_b(log: &[u8], at: usize, kind: u64, a: u64) -> Reading
-    ensures { λ r. ⌜ r ≡ stepAfter kind (a ∷ []) at (readNumbers (suc (suc (fourthNumbers kind))) (drop at (now (log .entry)))) ⌝ }
+    ensures { λ r. ⌜ r ≡ withPrior kind (a ∷ []) at (readNumbers (suc (suc (fourthNumbers kind))) (drop at (now (log .entry)))) ⌝ }
 {
     match read_number(log, at) {
         Number::Value { value, bytes } => read_c(log, at + bytes, kind, a, value),
@@ -93,7 +92,7 @@ fn read_b(log: &[u8], at: usize, kind: u64, a: u64) -> Reading
 }
 
 fn read_c(log: &[u8], at: usize, kind: u64, a: u64, b: u64) -> Reading
-    ensures { λ r. ⌜ r ≡ stepAfter kind (a ∷ b ∷ []) at (readNumbers (suc (fourthNumbers kind)) (drop at (now (log .entry)))) ⌝ }
+    ensures { λ r. ⌜ r ≡ withPrior kind (a ∷ b ∷ []) at (readNumbers (suc (fourthNumbers kind)) (drop at (now (log .entry)))) ⌝ }
 {
     match read_number(log, at) {
         Number::Value { value, bytes } => {
@@ -117,7 +116,7 @@ fn read_c(log: &[u8], at: usize, kind: u64, a: u64, b: u64) -> Reading
 }
 
 fn read_d(log: &[u8], at: usize, kind: u64, a: u64, b: u64, c: u64) -> Reading
-    ensures { λ r. ⌜ r ≡ stepAfter kind (a ∷ b ∷ c ∷ []) at (readNumbers 1 (drop at (now (log .entry)))) ⌝ }
+    ensures { λ r. ⌜ r ≡ withPrior kind (a ∷ b ∷ c ∷ []) at (readNumbers 1 (drop at (now (log .entry)))) ⌝ }
 {
     match read_number(log, at) {
         Number::Value { value, bytes } => {

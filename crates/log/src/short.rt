@@ -5,7 +5,9 @@ use model::kind::Kind;
 use model::step::Step;
 ghost use mathlib.Core.Path.{_≡_};
 ghost use mathlib.Core.Bool.{true};
-ghost use Rattle.model.specs.Log.{readStep};
+ghost use lib.ListN.{drop};
+ghost use Rattle.model.specs.Log.{readAt};
+ghost use Rattle.model.specs.Results.{readingNumber, readingStep, readingNext, readRejection, stepRead, nextRead};
 ghost use Rattle.log.specs.Short.{isShortAt, shortFourth, shortLength, shortStep};
 
 // The largest number of a kind.
@@ -41,7 +43,7 @@ pub fn fourth(log: &[u8], at: usize) -> u64
 }
 
 // How many bytes it has.
-pub fn length(log: &[u8], at: usize) -> usize
+pub fn byte_count(log: &[u8], at: usize) -> usize
     requires { ⌜ isShortAt (now log) at ≡ true ⌝ }
     ensures { λ r. ⌜ r ≡ shortLength (now (log .entry)) at ⌝ }
 {
@@ -62,13 +64,17 @@ pub fn step(log: &[u8], at: usize) -> Step
     }
 }
 
-// What is read where a log begins with a short step.
-pub fn short_step(log: &[u8]) -> Reading
-    requires { ⌜ isShortAt (now log) 0 ≡ true ⌝ }
-    ensures { λ r. ⌜ r ≡ readStep (now (log .entry)) ⌝ }
+// What is read there: the step, and the position after it.
+pub fn reading(log: &[u8], at: usize) -> Reading
+    requires { ⌜ isShortAt (now log) at ≡ true ⌝ }
+    ensures { λ r. ⌜ readingNumber r ≡ readRejection (drop at (now (log .entry))) ⌝ }
+    ensures { λ r. ⌜ readingStep r ≡ stepRead (drop at (now (log .entry))) ⌝ }
+    ensures { λ r. ⌜ readingNext r ≡ nextRead (now (log .entry)) at ⌝ }
+    ensures { λ r. ⌜ r ≡ readAt (now (log .entry)) at ⌝ }
 {
+    let next = at + byte_count(log, at);
     Reading::Step {
-        step: step(log, 0),
-        next: length(log, 0),
+        step: step(log, at),
+        next,
     }
 }

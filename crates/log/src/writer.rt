@@ -11,7 +11,7 @@ ghost use lib.ListN.{length};
 ghost use lib.Seq.{sets};
 ghost use Rattle.model.specs.Writer.{stepBytes, writeRejection, writing, afterWriting};
 ghost use Rattle.model.specs.Results.{writingNumber, writingCount, countBeside};
-ghost use Rattle.log.specs.Writer.{writable, bytesOf, Room};
+ghost use Rattle.log.specs.Writer.{writable, bytesOf, StepRoom};
 
 // Writes a step at a position of an output: the count of bytes, or the rejection, which leaves the output untouched.
 pub fn write_step(out: &mut [u8], at: usize, s: Step) -> Writing
@@ -91,7 +91,7 @@ fn step_length(s: Step, used: usize) -> usize
 
 // Writes the bytes of a step where the output has room for them, and returns the position after them.
 fn write_bytes(out: &mut [u8], at: usize, s: Step, used: usize) -> usize
-    requires { ⌜ Room (now out) at s used ⌝ }
+    requires { ⌜ StepRoom (now out) at s used ⌝ }
     ensures { λ r. ⌜ r ≡ at + length (bytesOf s used) ⌝ }
     ensures { λ _. ⌜ now (out .exit) ≡ sets (now (out .entry)) at (bytesOf s used) ⌝ }
 {

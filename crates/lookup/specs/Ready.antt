@@ -26,7 +26,7 @@ pub record ReadyInstalled (w : List ℕ) (z j : ℕ) : Type 0 where
   pub ready : Ready w z j
   pub there : isInstalled w z j ≡ true
 
--- .. and a host, as most steps name it
+-- a configuration, installed or not, and a host, as most steps name it
 pub record ReadyHost (w : List ℕ) (z j h : ℕ) : Type 0 where
   pub ready : Ready w z j
   pub host : h < 16

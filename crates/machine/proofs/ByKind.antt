@@ -2,12 +2,12 @@
 -- Assumes nothing.
 use Prim.Native.Nat.{ℕ, _-_, _≤_}
 use native.Mathlib.Omega.{arith}
-use mathlib.Core.Path.{_≡_, refl, sym, _∙_}
-use mathlib.Core.Bool.{Bool, true, false, cond, not, _&&_, true≢false}
+use mathlib.Core.Path.{_≡_, _∙_}
+use mathlib.Core.Bool.{true, false}
 use mathlib.Core.List.{List, [], _∷_}
 use lib.Dec.{leb, ltb}
 use lib.ListN.{length}
-use borrow.Author.Tests.{le-leb, leb-true, ltb-true, not-true}
+use borrow.Author.Tests.{le-leb, leb-true, ltb-true}
 use Rattle.model.specs.declared.kind.Kind.{Kind}
 use Rattle.model.specs.declared.kind.Kind.the-variants.{Kept, Unknown}
 use Rattle.model.specs.declared.step.Step.{Step}
@@ -17,7 +17,8 @@ use Rattle.model.specs.Rules.{Known}
 use Rattle.model.specs.Layout.{shardsOf, isStateLength}
 use Rattle.model.specs.Steps.{shardOf, configurationOf, actingHost, inRange, stepChecks, rejection, effect, after}
 use Rattle.model.proofs.Tests.{all-pass}
-use Rattle.arguments.specs.Numbers.{isIndexOf, argumentRejection}
+use Rattle.arguments.specs.Numbers.{isIndexOf, rangeRejection}
+use Rattle.arguments.proofs.Ranges.{index}
 use Rattle.lookup.specs.Ready.{Formed}
 use Rattle.lookup.specs.Kinds.{ReadyKind, kindAnswer, kindAfter}
 use Rattle.machine.specs.Inside.{ReadyStep}
@@ -27,30 +28,11 @@ use Rattle.machine.proofs.Ladders.{rejects-early}
 pub has-shards : {w : List ℕ} → Formed w → {n : ℕ} → n ≡ shardsOf (length w) → n ≡ 0 → ⊥
 has-shards f c e = omega (arith, f .several, c, e)
 
--- where no rejection applies to a step's numbers, its shard and its index are in range
-some-number : (a b : Bool) → _≡_ {A = ℕ} (cond a (cond b 7 4) 3) 0 → ⊥
-some-number true true e = omega arith
-some-number true false e = omega arith
-some-number false b e = omega arith
-
-index-told : (Z : ℕ) (s : Step) → argumentRejection Z s ≡ 0 → isIndexOf Z (shardOf s) (s .b) ≡ true
-unfolding argumentRejection firstOf inRange isIndexOf shardOf
-index-told Z s e = go (ltb (s .a) Z && leb 1 (s .b) && leb (s .b) 8) refl
-  where
-    go : (t : Bool) → (ltb (s .a) Z && leb 1 (s .b) && leb (s .b) 8) ≡ t → t ≡ true
-    go true q = refl
-    go false q = absurd (some-number (not (isKept (kindOf (s .kind)))) (not (isUnknown (kindOf (s .kind)))) (rw q at e))
-
--- .. and where the test t of them failed, r is a rejection
-pub no-index : (Z : ℕ) (s : Step) {t : Bool} → t ≡ isIndexOf Z (s .a) (s .b) → not t ≡ true → {r : ℕ} → r ≡ argumentRejection Z s → r ≡ 0 → ⊥
-unfolding shardOf
-no-index Z s {t} i m q e = true≢false (sym (index-told Z s (sym q ∙ e)) ∙ (sym i ∙ not-true t m))
-
 module _ {w : List ℕ} {n : ℕ} {s : Step} (r : ReadyStep w n s) where
   tests : (ltb (s .a) n ≡ true) × (leb 1 (s .b) ≡ true) × (leb (s .b) 8 ≡ true)
   unfolding isIndexOf shardOf
   tests =
-      let p = all-pass (ltb (s .a) n) (leb 1 (s .b) ∷ leb (s .b) 8 ∷ []) (r .index) in
+      let p = all-pass (ltb (s .a) n) (leb 1 (s .b) ∷ leb (s .b) 8 ∷ []) (index n s (r .range)) in
       (p .0, p .1 .0, p .1 .1 .0)
 
   pub least : 1 ≤ s .b
@@ -115,9 +97,9 @@ module _ {w : List ℕ} {n : ℕ} {s : Step} (r : ReadyStep w n s) where
 
   -- a kind that has no function
   pub kept-for-later : kindOf (s .kind) ≡ Kept → (3 ≡ rejection w s) × (w ≡ after w s)
-  unfolding argumentRejection firstOf isKept
+  unfolding rangeRejection firstOf isKept
   kept-for-later e = rejects-early w s (r .count) (has-shards (r .state) (r .count)) (rw e) (λ q. omega arith)
 
   pub no-kind : kindOf (s .kind) ≡ Unknown → (4 ≡ rejection w s) × (w ≡ after w s)
-  unfolding argumentRejection firstOf isKept isUnknown
+  unfolding rangeRejection firstOf isKept isUnknown
   no-kind e = rejects-early w s (r .count) (has-shards (r .state) (r .count)) (rw e) (λ q. omega arith)

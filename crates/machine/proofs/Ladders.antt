@@ -3,27 +3,29 @@
 use Prim.Native.Nat.{ℕ}
 use native.Mathlib.Omega.{arith}
 use mathlib.Core.Path.{_≡_, refl, sym, ap, _∙_}
-use mathlib.Core.Bool.{Bool, true, false, cond, not}
+use mathlib.Core.Bool.{Bool, true, false, cond, not, _&&_}
 use mathlib.Core.List.{List}
 use lib.Dec.{eqb}
 use lib.ListN.{length}
-use borrow.Author.Tests.{le-leb, lt-leb, eq-eqb, ne-eqb, not-true}
+use borrow.Author.Tests.{le-leb, lt-leb, eq-eqb, ne-eqb, not-true, not-false}
 use Rattle.model.specs.declared.step.Step.{Step}
 use Rattle.model.specs.Checks.{firstOf}
 use Rattle.model.specs.Kinds.{kindOf, isKept, isUnknown}
 use Rattle.model.specs.Layout.{shardsOf, isStateLength}
 use Rattle.model.specs.WellFormed.{wellFormed}
-use Rattle.model.specs.Steps.{shardOf, configurationOf, inRange, kindChecks, stepChecks, rejection, after}
+use Rattle.model.specs.Steps.{shardOf, configurationOf, areNumbers, inRange, kindChecks, stepChecks, rejection, after}
 use Rattle.model.proofs.WellFormedSteps.{after-rejected}
 use Rattle.model.proofs.Lengths.{several}
-use Rattle.arguments.specs.Numbers.{argumentRejection}
+use Rattle.arguments.specs.Numbers.{isIndexOf, rangeRejection}
 
--- 3, 4 and 7 as one
-ladder : (a b r : Bool) (k : ℕ) → cond a (cond b (cond r k 7) 4) 3 ≡ cond (eqb (cond a (cond b (cond r 0 7) 4) 3) 0) k (cond a (cond b (cond r 0 7) 4) 3)
-ladder true true true k = refl
-ladder true true false k = refl
-ladder true false r k = refl
-ladder false b r k = refl
+-- 3, 4 and 7 of the kind, the shard and the index as one, and 7 of the other numbers
+ladder : (a b i t : Bool) (k : ℕ)
+    → cond a (cond b (cond (i && t) k 7) 4) 3
+    ≡ cond (eqb (cond a (cond b (cond i 0 7) 4) 3) 0) (cond t k 7) (cond a (cond b (cond i 0 7) 4) 3)
+ladder true true true t k = refl
+ladder true true false t k = refl
+ladder true false i t k = refl
+ladder false b i t k = refl
 
 -- n is the number of shards, as the code counted it
 module _ (w : List ℕ) (s : Step) where
@@ -32,13 +34,18 @@ module _ (w : List ℕ) (s : Step) where
   answer = firstOf (kindChecks (kindOf (s .kind)) w (shardOf s) (configurationOf s) (s .c) (s .d))
 
   early : ℕ
-  early = argumentRejection (shardsOf (length w)) s
+  early = rangeRejection (shardsOf (length w)) s
 
-  rejection-is : rejection w s ≡ cond (isStateLength (length w)) (cond (eqb early 0) (cond (wellFormed w) answer 9) early) 1
-  unfolding rejection stepChecks firstOf argumentRejection answer early
+  numbers : Bool
+  numbers = areNumbers (kindOf (s .kind)) (shardsOf (length w)) (s .c) (s .d)
+
+  rejection-is : rejection w s
+      ≡ cond (isStateLength (length w)) (cond (eqb early 0) (cond numbers (cond (wellFormed w) answer 9) 7) early) 1
+  unfolding rejection stepChecks firstOf inRange rangeRejection isIndexOf shardOf answer early numbers
   rejection-is =
       ap (λ (x : ℕ). cond (isStateLength (length w)) x 1)
-      (ladder (not (isKept (kindOf (s .kind)))) (not (isUnknown (kindOf (s .kind)))) (inRange (shardsOf (length w)) s) (cond (wellFormed w) answer 9))
+      (ladder (not (isKept (kindOf (s .kind)))) (not (isUnknown (kindOf (s .kind)))) (isIndexOf (shardsOf (length w)) (shardOf s) (s .b)) numbers
+      (cond (wellFormed w) answer 9))
 
   -- a step that is rejected leaves the state
   rejected : {r : ℕ} → rejection w s ≡ r → (r ≡ 0 → ⊥) → (r ≡ rejection w s) × (w ≡ after w s)
@@ -54,15 +61,27 @@ module _ (w : List ℕ) (s : Step) where
       unfolding isStateLength
       length-passes = le-leb 2 (shardsOf (length w)) (several (length w) (λ q. l (c ∙ q)))
 
-      -- r is the rejection of the step's numbers
-      module _ {r : ℕ} (e : r ≡ argumentRejection n s) where
+      -- r is the rejection of the step's kind, shard and index
+      module _ {r : ℕ} (e : r ≡ rangeRejection n s) where
         early-is : early ≡ r
         unfolding early
-        early-is = ap (λ (m : ℕ). argumentRejection m s) (sym c) ∙ sym e
+        early-is = ap (λ (m : ℕ). rangeRejection m s) (sym c) ∙ sym e
 
         pub rejects-early : (r ≡ 0 → ⊥) → (r ≡ rejection w s) × (w ≡ after w s)
         rejects-early m = rejected (rejection-is ∙ rw (length-passes, early-is, ne-eqb r 0 m)) m
 
-        pub rejects-form : r ≡ 0 → {t : Bool} → t ≡ wellFormed w → not t ≡ true → (9 ≡ rejection w s) × (w ≡ after w s)
-        rejects-form z {t} f m =
-            rejected (rejection-is ∙ rw (length-passes, early-is, eq-eqb r 0 z, sym f ∙ not-true t m)) (λ q. omega arith)
+        -- t is the test of the other numbers
+        module _ (z : r ≡ 0) {t : Bool} (q : t ≡ areNumbers (kindOf (s .kind)) n (s .c) (s .d)) where
+          numbers-are : numbers ≡ t
+          unfolding numbers
+          numbers-are = rw (← c, q)
+
+          pub rejects-numbers : not t ≡ true → (7 ≡ rejection w s) × (w ≡ after w s)
+          rejects-numbers m =
+              rejected (rejection-is ∙ rw (length-passes, early-is, eq-eqb r 0 z, numbers-are, not-true t m)) (λ o. omega arith)
+
+          pub rejects-form : not t ≡ false → {f : Bool} → f ≡ wellFormed w → not f ≡ true → (9 ≡ rejection w s) × (w ≡ after w s)
+          rejects-form m {f} g l =
+              rejected
+              (rejection-is ∙ rw (length-passes, early-is, eq-eqb r 0 z, numbers-are, not-false t m, sym g ∙ not-true f l))
+              (λ o. omega arith)

@@ -2,16 +2,14 @@
 use model::kind::Kind;
 use model::step::Step;
 ghost use mathlib.Core.Path.{_≡_};
-ghost use mathlib.Core.List.{[], _∷_};
 ghost use lib.ListN.{length};
 ghost use Rattle.model.specs.Layout.{shardsOf};
-ghost use Rattle.model.specs.Log.{stepOf};
 ghost use Rattle.model.specs.Steps.{rejection, after};
 ghost use Rattle.lookup.specs.Ready.{Formed};
 ghost use Rattle.machine.specs.Inside.{ReadyStep};
 
 // A step: 0 and its effect, or the rejection and the state as it was. Kind, shard and index are tested before the state is scanned, the other numbers
-// after it: on a well-formed state by the step's kind, which tests them anyway.
+// after it: on a well-formed state by the step's kind.
 pub fn step(state: &mut [u64], s: Step) -> u64
     ensures { λ r. ⌜ r ≡ rejection (now (state .entry)) s ⌝ }
     ensures { λ _. ⌜ now (state .exit) ≡ after (now (state .entry)) s ⌝ }
@@ -20,44 +18,33 @@ pub fn step(state: &mut [u64], s: Step) -> u64
     if shards == 0 {
         return 1;
     }
-    let bad = Kind::of(s.kind).rules().rejection;
-    if bad != 0 {
-        return bad;
-    }
-    if !arguments::is_index_of(shards, s.a, s.b) {
-        return 7;
+    let early = arguments::range_rejection(shards, s);
+    if early != 0 {
+        return early;
     }
     if !wellformed::well_formed(state) {
-        let early = arguments::numbers_rejection(shards, s.kind, s.a, s.b, s.c, s.d);
-        if early != 0 {
-            return early;
+        if !arguments::are_numbers(Kind::of(s.kind), shards, s.c, s.d) {
+            return 7;
         }
         return 9;
     }
-    step_numbers(state, shards, s.kind, s.a, s.b, s.c, s.d)
+    act(state, shards, s)
 }
 
-// A step by its numbers, on a state that is known to be well-formed and is not scanned again. A `Step` would go through memory.
-pub fn step_numbers(
-    state: &mut [u64],
-    shards: usize,
-    kind: u64,
-    a: u64,
-    b: u64,
-    c: u64,
-    d: u64,
-) -> u64
+// The same on a state that is known to be well-formed and is not scanned again.
+pub fn step_inside(state: &mut [u64], shards: usize, s: Step) -> u64
     requires { ⌜ Formed (now state) × (shards ≡ shardsOf (length (now state))) ⌝ }
-    ensures { λ r. ⌜ r ≡ rejection (now (state .entry)) (stepOf kind (a ∷ b ∷ c ∷ d ∷ [])) ⌝ }
-    ensures { λ _. ⌜ now (state .exit) ≡ after (now (state .entry)) (stepOf kind (a ∷ b ∷ c ∷ d ∷ [])) ⌝ }
+    ensures { λ r. ⌜ r ≡ rejection (now (state .entry)) s ⌝ }
+    ensures { λ _. ⌜ now (state .exit) ≡ after (now (state .entry)) s ⌝ }
 {
-    if !arguments::is_index_of(shards, a, b) {
-        return arguments::numbers_rejection(shards, kind, a, b, c, d);
+    let early = arguments::range_rejection(shards, s);
+    if early != 0 {
+        return early;
     }
-    act(state, shards, Step { kind, a, b, c, d })
+    act(state, shards, s)
 }
 
-// The same, the shard and the index being in range. This is the one look at the kind: each kind tests its own numbers, decides and acts.
+// The same, kind, shard and index having passed. This is the one match on the kind: each kind tests its own numbers, decides and acts.
 fn act(state: &mut [u64], shards: usize, s: Step) -> u64
     requires { ⌜ ReadyStep (now state) shards s ⌝ }
     ensures { λ r. ⌜ r ≡ rejection (now (state .entry)) s ⌝ }

@@ -12,13 +12,13 @@ use Rattle.model.specs.Members.{size}
 use Rattle.model.specs.Layout.{place, members, replicaAt}
 use Rattle.model.specs.Learn.{alike, allAlike}
 use Rattle.model.specs.Prefixes.{Begins}
-use Rattle.model.proofs.Tests.{both, all-below}
+use Rattle.model.proofs.Tests.{both, and-left, all-below}
 
--- every replica of the configuration is alike
+-- every replica of the configuration is alike, whatever else may be asked of it
 pub every-alike : (w : List ℕ) (z j n : ℕ) (f : List ℕ) → allAlike w z j n f ≡ true
     → (k : ℕ) → k < size (members w z j) → alike n f (replicaAt w (place z j k) .history) ≡ true
 unfolding allAlike
-every-alike w z j n f e k h = search (all-below _ _ e)
+every-alike w z j n f e k h = search (all-below _ _ e, and-left)
 
 pub alike-long : (n : ℕ) (f g : List ℕ) → alike n f g ≡ true → n ≤ length g
 unfolding alike

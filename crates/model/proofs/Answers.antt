@@ -1,5 +1,5 @@
 -- On a well-formed state the answers of steps need no test of the whole state, so that they compute quickly where the steps are written out.
-use Prim.Native.Nat.{ℕ, _+_}
+use Prim.Native.Nat.{ℕ}
 use mathlib.Core.Path.{_≡_, refl, ap, ap₂, _∙_}
 use mathlib.Core.Bool.{cond, not}
 use mathlib.Core.List.{List, [], _∷_}
@@ -10,7 +10,6 @@ use Rattle.model.specs.Checks.{firstOf, _orElse_}
 use Rattle.model.specs.Kinds.{kindOf, isKept, isUnknown}
 use Rattle.model.specs.Layout.{isStateLength}
 use Rattle.model.specs.Steps.{shardOf, configurationOf, inRange, kindChecks, stepChecks, rejection, effect, after}
-use Rattle.model.specs.Replay.{afterAll, rejectedIn}
 use Rattle.model.specs.Marked.{answersFrom}
 use Rattle.model.proofs.WellFormed.{WellFormed, is-well-formed}
 use Rattle.model.proofs.WellFormedSteps.{after-formed}
@@ -31,20 +30,12 @@ unfoldable pub quickAnswers : ℕ → List ℕ → List Step → List ℕ
 quickAnswers Z w [] = []
 quickAnswers Z w (s ∷ ss) = quickRejection Z w s ∷ quickAnswers Z (quickAfter Z w s) ss
 
-unfoldable pub quickAfterAll : ℕ → List ℕ → List Step → List ℕ
-quickAfterAll Z w [] = w
-quickAfterAll Z w (s ∷ ss) = quickAfterAll Z (quickAfter Z w s) ss
-
-unfoldable pub quickRejectedIn : ℕ → List ℕ → List Step → ℕ
-quickRejectedIn Z w [] = 0
-quickRejectedIn Z w (s ∷ ss) = cond (eqb (quickRejection Z w s) 0) 0 1 + quickRejectedIn Z (quickAfter Z w s) ss
-
 module _ {Z : ℕ} {w : List ℕ} (f : WellFormed Z w) (s : Step) where
   pub quick-rejection : rejection w s ≡ quickRejection Z w s
   unfolding rejection stepChecks quickRejection isStateLength firstOf
   quick-rejection = rw (f .shards, le-leb 2 Z (f .several), is-well-formed f)
 
-  quick-after : after w s ≡ quickAfter Z w s
+  pub quick-after : after w s ≡ quickAfter Z w s
   unfolding after quickAfter
   quick-after = rw quick-rejection
 
@@ -54,16 +45,3 @@ quick-answers f [] = refl
 quick-answers {Z} f (s ∷ ss) =
     ap₂ (λ (n : ℕ) (ns : List ℕ). n ∷ ns) (quick-rejection f s)
     (quick-answers (after-formed f s) ss ∙ ap (λ (u : List ℕ). quickAnswers Z u ss) (quick-after f s))
-
-pub quick-after-all : {Z : ℕ} {w : List ℕ} → WellFormed Z w → (ss : List Step) → afterAll w ss ≡ quickAfterAll Z w ss
-unfolding afterAll quickAfterAll
-quick-after-all f [] = refl
-quick-after-all {Z} f (s ∷ ss) =
-    quick-after-all (after-formed f s) ss ∙ ap (λ (u : List ℕ). quickAfterAll Z u ss) (quick-after f s)
-
-pub quick-rejected-in : {Z : ℕ} {w : List ℕ} → WellFormed Z w → (ss : List Step) → rejectedIn w ss ≡ quickRejectedIn Z w ss
-unfolding rejectedIn quickRejectedIn
-quick-rejected-in f [] = refl
-quick-rejected-in {Z} f (s ∷ ss) =
-    ap₂ _+_ (ap (λ (n : ℕ). cond (eqb n 0) 0 1) (quick-rejection f s))
-    (quick-rejected-in (after-formed f s) ss ∙ ap (λ (u : List ℕ). quickRejectedIn Z u ss) (quick-after f s))

@@ -15,7 +15,7 @@ use Rattle.model.specs.Tests.{contains}
 use Rattle.model.specs.Prefixes.{Begins}
 use Rattle.model.proofs.Prefixes.{begins-le, begins-getD}
 
--- no entry stands twice: the n-th is not among the first n
+-- no entry stands twice: entry n, counted from 0, is not among the first n
 pub record Once (l : List ℕ) : Type 0 where
   pub fresh : (n : ℕ) → n < length l → contains (getD l n 0) (take n l) ≡ false
 

@@ -4,6 +4,7 @@ pub mod Tests
 pub mod AllOf
 pub mod Concat
 pub mod Checks
+pub mod Orders
 pub mod Members
 pub mod Parts
 pub mod Fields
@@ -31,6 +32,11 @@ pub mod InitialState
 pub mod WellFormedSetup
 pub mod StaysWellFormed
 pub mod ProgramStart
+-- Words 3 of replicas
+pub mod OriginsAlone
+pub mod UnchangedChecks
+pub mod UnchangedEffects
+pub mod Unchanged
 -- One shard
 pub mod Prefixes
 pub mod Histories
@@ -75,4 +81,3 @@ pub mod LongerLogs
 -- The marked cases
 pub mod Answers
 pub mod Marked
-pub mod OwnCases

@@ -46,7 +46,7 @@ pub part-word : (w : List ℕ) (at i : ℕ) → i < 64 → getD (part w at) i 0 
 unfolding part
 part-word w at i h = getD-take 64 (drop at w) i 0 h ∙ getD-drop at w i 0
 
-part-short : (w : List ℕ) (at : ℕ) → length (part w at) ≡ min 64 (length w - at)
+pub part-short : (w : List ℕ) (at : ℕ) → length (part w at) ≡ min 64 (length w - at)
 unfolding part
 part-short w at = simp (length-take, length-drop)
 

@@ -1,5 +1,5 @@
 -- Laws of the places of a state: its parts and head words lie in it, apart from each other.
-use Prim.Native.Nat.{ℕ, _+_, _*_, _≤_, _<_}
+use Prim.Native.Nat.{ℕ, _+_, _*_, _/_, _%_, _≤_, _<_}
 use native.Mathlib.Omega.{arith}
 use native.Mathlib.Decide.{decLe}
 use mathlib.Core.Path.{_≡_, sym}
@@ -21,6 +21,11 @@ place-fits w l hz hj hk = omega arith
 pub head-fits : (w : List ℕ) {z i Z : ℕ} → length w ≡ Z * 2112 → z < Z → i < 64 → headPlace z i < length w
 unfolding headPlace
 head-fits w l hz hi = omega arith
+
+-- the replicas of all configurations stand one after the other, four each
+pub place-through : (z n : ℕ) → place z 0 n ≡ place z (n / 4) (n % 4)
+unfolding place
+place-through z n = omega arith
 
 -- two parts of which neither ends before the other begins are one
 place-same : (z z′ : ℕ) {j k j′ k′ : ℕ} → j < 8 → k < 4 → j′ < 8 → k′ < 4 → place z j k < place z′ j′ k′ + 64 → place z′ j′ k′ < place z j k + 64

@@ -1,6 +1,6 @@
--- The program's plan is accepted, and the state that it gives is well-formed.
+-- The program's plan is accepted, and the state that it gives is well-formed. The proof of `specs/ProgramSetup.antt`.
 use Prim.Native.Nat.{ℕ}
-use mathlib.Core.Path.{_≡_, subst}
+use mathlib.Core.Path.{_≡_, refl, subst}
 use mathlib.Core.List.{List}
 use lib.Count.{ones}
 use lib.ListN.{length}
@@ -11,6 +11,7 @@ use Rattle.model.specs.Layout.{shardsOf, isStateLength}
 use Rattle.model.specs.WellFormed.{isSequencer, allDiffer}
 use Rattle.model.specs.Setup.{planSequencer, planMembers, planOrderer, isPlannedShard, isPlan, setupRejection, initialState, afterSetup}
 use Rattle.model.specs.Transcript.{programPlan, programStart}
+use Rattle.model.specs.ProgramSetup.{ProgramSetup}
 use Rattle.model.proofs.InitialState.{initial-length}
 use Rattle.model.proofs.WellFormed.{WellFormed}
 use Rattle.model.proofs.WellFormedSetup.{setup-formed}
@@ -41,3 +42,7 @@ unfolding programStart
 start-formed =
     subst (λ (Z : ℕ). WellFormed Z (initialState Z programPlan)) start-shards
     (setup-formed programStart programPlan (start-accepted programStart start-length))
+
+pub program-setup : ProgramSetup
+unfolding programPlan
+program-setup = record { plan = refl; accepted = start-accepted; first = start-left }

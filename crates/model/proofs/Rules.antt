@@ -8,8 +8,8 @@ use borrow.Author.Tests.{lt-leb, ne-eqb, leb-true, ltb-true}
 use Rattle.model.specs.declared.kind.Kind.{Kind}
 use Rattle.model.specs.declared.kind.Kind.the-variants.{Add, Adopt, Learn, Wedge, Install, Inherit, CatchUp, Kept, Unknown}
 use Rattle.model.specs.declared.kind.Rules.{Rules}
-use Rattle.model.specs.Kinds.{kindOf, isKept, isUnknown, namesHost, usedNumbers}
-use Rattle.model.specs.Rules.{kindRejection, Known, mostFourth, rulesOf, fourthNumbers}
+use Rattle.model.specs.Kinds.{kindOf, isKept, isUnknown, namesHost, usedNumbers, kindRejection}
+use Rattle.model.specs.Rules.{Known, mostFourth, rulesOf, fourthNumbers}
 use Rattle.model.specs.Members.{isHost}
 use Rattle.model.specs.Entries.{isEntry}
 use Rattle.model.specs.Steps.{areNumbers}

@@ -12,13 +12,15 @@ use Rattle.model.specs.Replicas.{Replica, unused, isPending, isImmutable
 use Rattle.model.specs.Layout.{installed, isInstalled, members}
 use Rattle.model.specs.Configuration.{replicaIn}
 use Rattle.model.specs.Inherit.{source}
+use Rattle.model.specs.Origins.{isOriginOf}
 use Rattle.model.specs.Setup.{afterSetup}
 use Rattle.model.specs.Runs.{Moment, stateAt}
 use Rattle.model.specs.OneList.{shards, Seated}
-use Rattle.model.specs.Sources.{Began, inherits as inheritsFrom, catchesUp as catchesUpWith, SourcesClaim}
+use Rattle.model.specs.Sources.{Began, inherits as inheritsFrom, catchesUp as catchesUpWith, NamesSource, SourcesClaim}
 use Rattle.model.proofs.StateViews.{view, InView, inside, outside, in-view}
 use Rattle.model.proofs.SeatedReplica.{member-view}
-use Rattle.model.proofs.WellFormedMembers.{head-open, size-none}
+use Rattle.model.proofs.Origins.{named, has-source}
+use Rattle.model.proofs.WellFormedMembers.{head-open, size-none, member-origin}
 use Rattle.model.proofs.Forward.{Forward}
 use Rattle.model.proofs.Safe.{Safe}
 use Rattle.model.proofs.Kept.{Source, From, stood, inherits, catchesUp, formed}
@@ -208,12 +210,24 @@ module _ {w : List ℕ} {ms : List Moment} (r : Run w ms) (s : Safe w (λ z. [])
     unfolding at
     seated-began = host-began n z j (began-at .before) h g (began-at .next-to) below (d .member) (began-at .how)
 
+  -- a replica that is not pending, of a configuration after a shard's first, names a host, since the state is well-formed
+  seated-named : (z j h n : ℕ) → Seated (at n) z (suc j) h → isPending (replicaIn (at n) z (suc j) h) ≡ false → NamesSource (at n) z (suc j) h
+  unfolding replicaIn
+  seated-named z j h n d e =
+      let f = formed (safe n) in
+      let small : suc j < 8 = lt-of-lt-of-le (d .configured) (f .head z (d .shard) .most) in
+      let r = replicaIn (at n) z (suc j) h in
+      let x : isOriginOf (at n) z (suc j) r ≡ true = member-origin f (d .shard) small h (d .member) in
+      let least = named (at n) z (suc j) (r .origin) (sym (has-source (at n) z (suc j) r (omega arith) e) ∙ x) .least in
+      record { host = r .origin - 1; origin = omega (arith, least) }
+
 pub sources : SourcesClaim
 unfolding SourcesClaim at
 sources w p e calls =
     let run = played-run (afterSetup w p) calls in
     let safe = safe-setup w p e in
     record {
+      named = seated-named run safe (setup-origin w p e);
       immutable = source-immutable run safe (setup-origin w p e);
       began = seated-began run safe (setup-origin w p e);
     }

@@ -14,6 +14,7 @@ use Rattle.model.specs.Replicas.{stablePrefix, unused}
 use Rattle.model.specs.Layout.{place, replicaAt}
 use Rattle.model.specs.StableHistory.{longer, longestOf, stableHistory}
 use Rattle.model.specs.Prefixes.{Begins, Share}
+use Rattle.model.proofs.Places.{place-through}
 use Rattle.model.proofs.Prefixes.{begins-nil, begins-trans, share-le}
 use Rattle.model.proofs.Histories.{Once, Offered, once-nil, offered-nil}
 use Rattle.model.proofs.Views.{View, Inv}
@@ -41,14 +42,9 @@ in-view w z j k = go (ltb j 8) (ltb k 4) refl refl
     go true false a b = outside (λ h. let g : 4 ≤ k = ltb-false k 4 b in omega (arith, h .1)) (λ u. rw (a, b))
     go false t a b = outside (λ h. let g : 8 ≤ j = ltb-false j 8 a in omega (arith, h .0)) (λ u. rw a)
 
--- the n-th of the 32 replicas is replica n % 4 of configuration n / 4
+-- replica n of the 32, counted from 0, is replica n % 4 of configuration n / 4
 seat : (w : List ℕ) (z n : ℕ) → n < 32 → replicaAt w (place z 0 n) ≡ view w z (n / 4) (n % 4)
-unfolding place
-seat w z n h =
-    ap (replicaAt w) (places n (n / 4) (n % 4) (omega arith)) ∙ sym (view-in w z {j = n / 4} {k = n % 4} (omega arith) (omega arith))
-  where
-    places : (n q r : ℕ) → n ≡ q * 4 + r → z * 2112 + 64 + 0 * 256 + n * 64 ≡ z * 2112 + 64 + q * 256 + r * 64
-    places n q r e = omega arith
+seat w z n h = ap (replicaAt w) (place-through z n) ∙ sym (view-in w z {j = n / 4} {k = n % 4} (omega arith) (omega arith))
 
 -- which of two lists `longer` picks
 longer-cases : (P : List ℕ → Type 0) (p q : List ℕ) → (length q ≤ length p → P p) → (length p < length q → P q) → P (longer p q)

@@ -19,7 +19,7 @@ issuer w z j h = replicaOf w (configuration w (sequencer w z) j) h
 unfoldable pub issuedAt : List ℕ → ℕ → ℕ → ℕ → ℕ → ℕ
 issuedAt w z j h p = getD (issuer w z j h .history) p 0
 
--- "The entry at place is confirmed in that seat", "issue for this zone"
+-- "the entry at place is confirmed in that seat", and is an "issue for this zone"
 unfoldable pub isStableIssue : List ℕ → ℕ → ℕ → ℕ → ℕ → Bool
 isStableIssue w z j h p = ltb p (issuer w z j h .stable) && isIssueFor z (issuedAt w z j h p)
 

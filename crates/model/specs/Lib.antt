@@ -21,12 +21,14 @@ pub mod Install
 pub mod Inherit
 pub mod CatchUp
 pub mod Steps
+pub mod Orders
 pub mod Numbers
 pub mod Log
 pub mod Writer
 pub mod Replay
 pub mod StableHistory
 pub mod Transcript
+pub mod ProgramSetup
 pub mod Prefixes
 pub mod Runs
 pub mod Reference
@@ -40,6 +42,6 @@ pub mod RoundTrip
 pub mod LogRoundTrip
 pub mod StaysWellFormed
 pub mod Marked
+pub mod Unchanged
 pub mod WedgedFirst
 pub mod Results
-pub mod OwnCases

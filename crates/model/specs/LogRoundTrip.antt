@@ -1,14 +1,16 @@
--- A whole log's round trip as one claim (document 01: "A log is steps end to end"; "Log bytes read to the steps they encode, and steps write to those
--- bytes."). It is proved in `proofs/LogRoundTrip.antt` (`log-round-trip`).
-use Prim.Native.Nat.{ℕ, _≤_}
+-- A whole log's round trip as one claim (document 01: "A log is steps end to end"; the second demand: "Log bytes read to the steps they encode, and steps
+-- write to those bytes."). It is proved in `proofs/LogRoundTrip.antt` (`log-round-trip`).
+use Prim.Native.Nat.{ℕ, _≤_, _<_}
 use mathlib.Core.Path.{_≡_}
 use mathlib.Core.Bool.{true}
 use mathlib.Core.List.{List, [], _∷_, _++_}
 use lib.Dec.{ltb}
-use lib.ListN.{length}
-use Rattle.model.specs.declared.Stop.the-variants.{Ended}
+use lib.ListN.{length, take, drop}
+use Rattle.model.specs.declared.Reading.the-variants.{Rejected}
+use Rattle.model.specs.declared.Stop.{Stop}
+use Rattle.model.specs.declared.Stop.the-variants.{Ended, Spent, Damaged}
 use Rattle.model.specs.declared.step.Step.{Step}
-use Rattle.model.specs.Log.{Log, readLog}
+use Rattle.model.specs.Log.{Log, readStep, readLog}
 use Rattle.model.specs.Tests.{allOf}
 use Rattle.model.specs.Writer.{stepBytes}
 use Rattle.model.specs.RoundTrip.{Writable}
@@ -32,10 +34,22 @@ pub record EncodedLog (bs : List ℕ) (ss : List Step) : Type 0 where
   pub writable : AllWritable ss
   pub bytes : bs ≡ logBytes ss
 
+-- how reading bytes bs with a budget stops, where l is what was read by then: "It stops as ended (no bytes left, tested first), spent (budget steps tried)
+-- or damaged (3 to 6, the number told)."
+pub data Stops (budget : ℕ) (bs : List ℕ) (l : Log) : Stop → Type 0 where
+  -- the whole steps are all bytes
+  ended : l .bytes ≡ length bs → length (l .steps) ≤ budget → Stops budget bs l Ended
+  -- bytes are left, and no budget
+  spent : l .bytes < length bs → length (l .steps) ≡ budget → Stops budget bs l Spent
+  -- what comes after the whole steps is rejected with that number
+  damaged : {r : ℕ} → readStep (drop (l .bytes) bs) ≡ Rejected r → length (l .steps) < budget → Stops budget bs l (Damaged r)
+
 pub record LogRoundTrip : Type 0 where
   -- the bytes of any steps that the writer accepts read to just these steps and the end, with any budget that is enough for them
   pub writtenIsRead : (ss : List Step) (budget : ℕ) → AllWritable ss → length ss ≤ budget → readLog budget (logBytes ss) ≡ wholeLog ss
-  -- bytes that read to their end are the bytes of the steps read, and no others
+  -- however reading stops, the "bytes of whole steps read" are the bytes of the steps read, and no others
   pub readIsWritten :
-      (budget : ℕ) (bs : List ℕ) → allOf (λ b. ltb b 256) bs ≡ true → readLog budget bs .stop ≡ Ended
-      → EncodedLog bs (readLog budget bs .steps)
+      (budget : ℕ) (bs : List ℕ) → allOf (λ b. ltb b 256) bs ≡ true → EncodedLog (take (readLog budget bs .bytes) bs) (readLog budget bs .steps)
+  -- they are bytes of the log, and all of them where it stops as ended
+  pub within : (budget : ℕ) (bs : List ℕ) → readLog budget bs .bytes ≤ length bs
+  pub stops : (budget : ℕ) (bs : List ℕ) → Stops budget bs (readLog budget bs) (readLog budget bs .stop)

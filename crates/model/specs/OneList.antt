@@ -52,7 +52,7 @@ pub record OneList (w : List ℕ) (ms : List Moment) : Type 0 where
   pub allowed : (z n : ℕ) → z < shards w → MayAcceptAll (choice z n) (beforeAccepting z (choice z) ms n)
   -- "after setup and after every step the lone box's list equals the zone's longest confirmed part"
   pub lone : (z n : ℕ) → z < shards w → referenceAt z (choice z) ms n .history ≡ stableHistory (stateAt w ms n) z
-  -- "Each is what the zone's one lone box held at some point up to that moment"
+  -- "Each is what the zone's one lone box .. held at some point up to that moment"
   pub held : (z j h m : ℕ) → Seated (stateAt w ms m) z j h → Held z (choice z) ms m (stableOf (stateAt w ms m) z j h)
   -- "At every moment, every configuration after a zone's first is the first issue for that zone and index in the confirmed list of the zone that
   -- appoints it": configuration j + 1 has index j + 2. `Appointed.antt` reads members and orderer off that issue

@@ -9,6 +9,6 @@ use lib.ListN.{length, take}
 pub record Begins (p l : List ℕ) : Type 0 where
   pub starts : take (length p) l ≡ p
 
--- "Either box's confirmed part begins the other's, or they are equal."
+-- the third demand: "Either box's confirmed part begins the other's, or they are equal."
 pub record Share (p q : List ℕ) : Type 0 where
   pub either : Begins p q ⊎ Begins q p

@@ -1,4 +1,4 @@
--- The reference shard ("the lone box" of document 01, "The one list"): "fed every step .. with its answer, 0 or the refusal, and sees no seat".
+-- The reference shard (document 01, "The one list"): "The lone box of a zone is fed every step .. with its answer, 0 or the refusal, and sees no seat."
 use Prim.Native.Nat.{ℕ, zero, suc}
 use mathlib.Core.Path.{_≡_}
 use mathlib.Core.Bool.{Bool, true, false, cond, _&&_}
@@ -45,7 +45,7 @@ pub data MayAcceptAll : List ℕ → Reference → Type 0 where
   none : {r : Reference} → MayAcceptAll [] r
   next : {e : ℕ} {es : List ℕ} {r : Reference} → MayAccept e r → MayAcceptAll es (accept e r) → MayAcceptAll (e ∷ es) r
 
--- the shard fed the n-th step of a run, if there is one
+-- the shard fed step n of a run, counted from 0, which is tried at moment n and leads to moment n + 1, if there is one
 unfoldable pub fedAt : ℕ → List Moment → ℕ → Reference → Reference
 fedAt z [] n r = r
 fedAt z (m ∷ ms) zero r = fed z (m .step) (m .answer) r

@@ -1,5 +1,5 @@
 -- Document 01's number and values for each case of an answer that is an enum: "A refusal is its number, other results 0". The contracts of the
--- functions say them.
+-- functions say them. Those of a kind are in `Kinds.antt`.
 use Prim.Native.Nat.{ℕ, _+_}
 use mathlib.Core.Bool.{cond}
 use mathlib.Core.List.{List, []}
@@ -48,9 +48,9 @@ bytesRead bs = readingNext (readStep bs)
 unfoldable pub nextRead : List ℕ → ℕ → ℕ
 nextRead log at = cond (eqb (bytesRead (drop at log)) 0) 0 (at + bytesRead (drop at log))
 
--- ---- the writer
+-- ---- what writes: a step, the transcript, the text for spreadsheets
 
--- the rejection, 3, 4, 7 or 8, or 0
+-- the rejection, or 0: of a step 3, 4, 7 or 8, of the transcript 8, of the text for spreadsheets 1, 9 or 8
 unfoldable pub writingNumber : Writing → ℕ
 writingNumber (Bytes n) = 0
 writingNumber (NotWritten r) = r

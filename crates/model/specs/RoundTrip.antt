@@ -1,4 +1,4 @@
--- The log's round trip as one claim (document 01): "Log bytes read to the steps they encode, and steps write to those bytes." It is proved in
+-- The log's round trip as one claim (the second demand): "Log bytes read to the steps they encode, and steps write to those bytes." It is proved in
 -- `proofs/RoundTrip.antt` (`round-trip`).
 use Prim.Native.Nat.{ℕ, _≤_}
 use mathlib.Core.Path.{_≡_}

@@ -6,11 +6,7 @@ use lib.Dec.{leb}
 use Rattle.model.specs.declared.kind.Kind.{Kind}
 use Rattle.model.specs.declared.kind.Kind.the-variants.{Add, Adopt, Learn, Wedge, Install, Inherit, CatchUp, Kept, Unknown}
 use Rattle.model.specs.declared.kind.Rules.{Rules}
-use Rattle.model.specs.Kinds.{kindOf, isKept, isUnknown, namesHost, usedNumbers}
-
--- the rejection of a kind, 0 where it has none
-unfoldable pub kindRejection : Kind → ℕ
-kindRejection k = cond (isKept k) 3 (cond (isUnknown k) 4 0)
+use Rattle.model.specs.Kinds.{kindOf, isKept, isUnknown, namesHost, usedNumbers, kindRejection}
 
 -- a kind that is neither kept nor unknown
 pub record Known (k : Kind) : Type 0 where

@@ -36,13 +36,13 @@ unfoldable pub played : List ℕ → List Call → List Moment
 played w [] = []
 played w (c ∷ cs) = moments w (triedBy w c) ++ played (leftBy w c) cs
 
--- the state at moment n: 0 is after setup, n after the n-th step; past the last step the last state stays
+-- the state at moment n, which is after the first n steps: moment 0 is after setup; past the last step the last state stays
 unfoldable pub stateAt : List ℕ → List Moment → ℕ → List ℕ
 stateAt w ms zero = w
 stateAt w [] (suc n) = w
 stateAt w (m ∷ ms) (suc n) = stateAt (m .state) ms n
 
--- the answer of the step that is tried at moment n, 0 where none is
+-- the answer of step n, counted from 0, which is tried at moment n and leads to moment n + 1; 0 where there is none
 unfoldable pub answerAt : List Moment → ℕ → ℕ
 answerAt [] n = 0
 answerAt (m ∷ ms) zero = m .answer

@@ -1,8 +1,8 @@
--- Request A3 as one claim over every run: the source that an origin names is immutable, and from it the replica began, by inherit or, with request A4,
--- through peers. It is proved in `proofs/Sources.antt` (`sources`).
+-- Request A3 as one claim over every run: a replica of a later configuration that is not pending names its source in its origin, that source is immutable,
+-- and from it the replica began, by inherit or, with request A4, through peers. It is proved in `proofs/Sources.antt` (`sources`).
 use Prim.Native.Nat.{ℕ, suc, _-_, _<_}
 use mathlib.Core.Path.{_≡_}
-use mathlib.Core.Bool.{true}
+use mathlib.Core.Bool.{true, false}
 use mathlib.Core.List.{List}
 use Rattle.model.specs.Replicas.{isPending, isImmutable, inherited, caughtUp}
 use Rattle.model.specs.Configuration.{replicaIn}
@@ -22,9 +22,18 @@ pub data Began (w : List ℕ) (ms : List Moment) (z j g : ℕ) : ℕ → ℕ →
       → (peer : ℕ) → Seated (stateAt w ms m) z j peer → Began w ms z j g peer m
       → replicaIn (stateAt w ms (suc m)) z j h ≡ caughtUp (replicaIn (stateAt w ms m) z j peer) → Began w ms z j g h n
 
--- w is the state after setup, ms every step tried since: at every moment n, of a host h whose replica names host g in its word 3
+-- word 3 of the replica of host h in configuration j of shard z names a host
+pub record NamesSource (w : List ℕ) (z j h : ℕ) : Type 0 where
+  pub host : ℕ
+  pub origin : replicaIn w z j h .origin ≡ suc host
+
+-- w is the state after setup, ms every step tried since: at every moment n
 pub record Sources (w : List ℕ) (ms : List Moment) : Type 0 where
-  -- g has a replica in the configuration before, which is immutable
+  -- "for all others": every replica of a configuration after a shard's first that is not pending names a host g, of which the next two speak
+  pub named :
+      (z j h n : ℕ) → Seated (stateAt w ms n) z (suc j) h → isPending (replicaIn (stateAt w ms n) z (suc j) h) ≡ false
+      → NamesSource (stateAt w ms n) z (suc j) h
+  -- where the replica of host h names host g in its word 3, g has a replica in the configuration before, which is immutable
   pub immutable :
       (z j h g n : ℕ) → Seated (stateAt w ms n) z j h → replicaIn (stateAt w ms n) z j h .origin ≡ suc g
       → Seated (stateAt w ms n) z (j - 1) g × (isImmutable (source (stateAt w ms n) z j g) ≡ true)

@@ -11,7 +11,9 @@ use Rattle.model.specs.Layout.{place, replicaAt}
 unfoldable pub longer : List ℕ → List ℕ → List ℕ
 longer p q = cond (ltb (length p) (length q)) q p
 
--- the longest stable prefix of the first n replicas of shard z, "of equally long ones, lowest index, then lowest seat"
+-- the longest stable prefix of the first n replicas of shard z, "of equally long ones, lowest index, then lowest seat". The replicas of all configurations
+-- stand one after the other, four each, so replica n counted from configuration 0 on is replica n % 4 of configuration n / 4: `place-through` in
+-- `proofs/Places.antt`
 unfoldable pub longestOf : List ℕ → ℕ → ℕ → List ℕ
 longestOf w z zero = []
 longestOf w z (suc n) = longer (longestOf w z n) (stablePrefix (replicaAt w (place z 0 n)))

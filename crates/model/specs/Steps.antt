@@ -21,7 +21,8 @@ use Rattle.model.specs.Install.{installChecks, installEffect}
 use Rattle.model.specs.Inherit.{inheritChecks, inheritEffect}
 use Rattle.model.specs.CatchUp.{catchUpChecks, catchUpEffect}
 
--- "A step is a kind and four numbers": the shard, the configuration counted from 0, and the acting host ("the named one; for add, the orderer")
+-- "A step is a kind and four numbers": the shard, the configuration counted from 0, and the acting host (request A7: "the named one; for add it is the
+-- orderer of the named configuration")
 unfoldable pub shardOf : Step → ℕ
 shardOf s = s .a
 

@@ -2,7 +2,7 @@
 use crate::layout::REPLICA_WORDS;
 ghost use mathlib.Core.Path.{_≡_};
 ghost use Prim.Native.Nat.{_+_, _*_, _<_, _^_};
-ghost use Rattle.model.specs.Members.{hasMember, replicaNumber, size};
+ghost use Rattle.model.specs.Members.{hasMember, size};
 ghost use Rattle.model.specs.Configuration.{replicaPlace};
 
 pub struct Configuration {

@@ -1,6 +1,6 @@
 // The kind of a step, told from its number: the one match on kind numbers, and the one match on kinds that says what their steps have.
 ghost use mathlib.Core.Path.{_≡_};
-ghost use Rattle.model.specs.Kinds.{kindOf, usedNumbers};
+ghost use Rattle.model.specs.Kinds.{kindOf, usedNumbers, kindNumber, kindRejection, numberNamed, rejectionNamed};
 ghost use Rattle.model.specs.Rules.{Known, rulesOf, rulesWith, fourthNumbers};
 
 pub enum Kind {
@@ -28,8 +28,10 @@ pub struct Rules {
 const FOURTHS: u64 = 232;
 
 impl Kind {
-    // The kind that a number names.
+    // The kind that a number names: its own number and rejection, and the kind itself.
     pub fn of(number: u64) -> Self
+        ensures { λ r. ⌜ kindNumber r ≡ numberNamed number ⌝ }
+        ensures { λ r. ⌜ kindRejection r ≡ rejectionNamed number ⌝ }
         ensures { λ r. ⌜ r ≡ kindOf number ⌝ }
     {
         match number {

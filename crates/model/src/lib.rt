@@ -12,14 +12,15 @@ pub enum Number {
     Rejected(u64),
 }
 
-// What reading one step of a log gives: the step and the position after it, the end, or the rejection (3 to 6).
+// What reading one step of a log gives: the step and the position after it (at the log's start, its count of bytes), the end, or the rejection (3 to 6).
 pub enum Reading {
     Step { step: step::Step, next: usize },
     End,
     Rejected(u64),
 }
 
-// What writing one step gives: the count of bytes, or the rejection (3, 4, 7 or 8).
+// What writing to an output gives: the count of bytes, or the rejection: of a step 3, 4, 7 or 8, of the text for spreadsheets 1, 9 or 8, of the
+// transcript 8.
 pub enum Writing {
     Bytes(usize),
     Rejected(u64),

@@ -2,7 +2,7 @@
 // standard error; where the log cannot be read whole, nothing is printed.
 use model::Writing;
 ghost use Prim.Native.Nat.{_≤_};
-ghost use lib.ListN.{length as count};
+ghost use lib.ListN.{length};
 
 mod input;
 mod output;
@@ -35,18 +35,18 @@ fn usage() {
 fn show(log: &[u8]) {
     let mut out = [0u8; transcript::MOST];
     match transcript::transcript(log, &mut out) {
-        Writing::Bytes(length) => {
-            print(&out, length);
+        Writing::Bytes(len) => {
+            print(&out, len);
         }
         Writing::Rejected(_) => {}
     }
 }
 
 // Writes the first bytes of an output to standard output.
-fn print(out: &[u8], length: usize)
-    requires { ⌜ length ≤ count (now out) ⌝ }
+fn print(out: &[u8], len: usize)
+    requires { ⌜ len ≤ length (now out) ⌝ }
 {
-    if !output::write_all(&out[..length]) {
+    if !output::write_all(&out[..len]) {
         os::fail(b"penkwadar: cannot write the text");
     }
 }

@@ -28,7 +28,7 @@ pub record ShardRoom (out : List ℕ) (at : ℕ) (w : List ℕ) (z : ℕ) : Type
   pub room : at + length (shardText w z) ≤ length out
 
 -- the stable prefix of the replica at a place, with room for its rows
-pub record EntriesRoom (out : List ℕ) (at : ℕ) (w : List ℕ) (p z : ℕ) : Type 0 where
+pub record RowsRoom (out : List ℕ) (at : ℕ) (w : List ℕ) (p z : ℕ) : Type 0 where
   pub has : HasEntries w p
   pub room : at + length (historyText z (entriesAt w p)) ≤ length out
 

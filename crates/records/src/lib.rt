@@ -33,6 +33,6 @@ pub fn csv(state: &[u64], out: &mut [u8]) -> Writing
             return Writing::Rejected(8);
         }
     }
-    let length = text::write_text(out, state, shards);
-    Writing::Bytes(length)
+    let len = text::write_text(out, state, shards);
+    Writing::Bytes(len)
 }

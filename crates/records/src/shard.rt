@@ -10,7 +10,7 @@ ghost use lib.ListN.{length};
 ghost use lib.Seq.{sets};
 ghost use Rattle.histories.specs.Entries.{entriesAt, HasEntries};
 ghost use Rattle.histories.specs.History.{OfShard};
-ghost use Rattle.records.specs.Room.{historyText, shardText, ShardRoom, EntriesRoom};
+ghost use Rattle.records.specs.Room.{historyText, shardText, ShardRoom, RowsRoom};
 
 // How long the rows of a shard are.
 pub fn shard_length(state: &[u64], shard: u64) -> usize
@@ -43,7 +43,7 @@ pub fn write_shard(out: &mut [u8], at: usize, state: &[u64], shard: u64) -> usiz
 
 // The same for the stable prefix of the replica at a place.
 fn write_entries(out: &mut [u8], at: usize, state: &[u64], place: usize, shard: u64) -> usize
-    requires { ⌜ EntriesRoom (now out) at (now state) place shard ⌝ }
+    requires { ⌜ RowsRoom (now out) at (now state) place shard ⌝ }
     ensures { λ r. ⌜ r ≡ at + length (historyText shard (entriesAt (now (state .entry)) place)) ⌝ }
     ensures { λ _. ⌜ now (out .exit) ≡ sets (now (out .entry)) at (historyText shard (entriesAt (now (state .entry)) place)) ⌝ }
 {

@@ -3,6 +3,7 @@ pub mod Named
 pub mod Rest
 pub mod Running
 pub mod Tallies
+pub mod Tallying
 pub mod TallyLaws
 pub mod ThreeFacts
 pub mod TurnExits

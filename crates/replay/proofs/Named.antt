@@ -4,7 +4,7 @@ use Prim.Native.Nat.{ℕ, _-_, _≤_, _<_}
 use native.Mathlib.Omega.{arith}
 use mathlib.Core.Path.{_≡_, refl, sym, _∙_}
 use mathlib.Core.Logic.{_⊎_, inl, inr}
-use mathlib.Core.Bool.{Bool, true, false, not}
+use mathlib.Core.Bool.{Bool, true, false}
 use mathlib.Core.List.{List, [], _∷_}
 use lib.Dec.{leb, ltb}
 use lib.ListN.{length}
@@ -19,9 +19,9 @@ use Rattle.model.specs.Steps.{shardOf, configurationOf, actingHost, areNumbers,
 use Rattle.model.proofs.Tests.{all-pass}
 use Rattle.lookup.specs.Ready.{Ready}
 use Rattle.replay.specs.Tally.{noHost, namedHost, countOf}
-use Rattle.replay.specs.Turns.{Rejected}
+use Rattle.replay.specs.Turns.{RejectedStep}
 
-module _ {w : List ℕ} {s : Step} {a : ℕ} (r : Rejected w s a) where
+module _ {w : List ℕ} {s : Step} {a : ℕ} (r : RejectedStep w s a) where
   -- a step whose rejection is not 7 has its numbers in range
   in-range : (a ≡ 7 → ⊥) → inRange (shardsOf (length w)) s ≡ true
   unfolding rejection stepChecks firstOf isStateLength

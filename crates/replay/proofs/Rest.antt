@@ -19,7 +19,20 @@ use Rattle.model.specs.Steps.{rejection, after}
 use Rattle.model.specs.Log.{readStep, from, readAt, withStep, stopped, isEmpty, logAfter, readLog}
 use Rattle.model.specs.Replay.{afterAll, rejectedIn}
 use Rattle.model.proofs.RoundTrip.{step-least, step-within}
-use Rattle.replay.specs.Run.{reported, runReport, afterRun, counted, Rest}
+use Rattle.replay.specs.Run.{reportOf, runReport, afterRun}
+
+-- counts before a report's
+unfoldable pub counted : ℕ → ℕ → ℕ → Report → Report
+counted t r b x = reportOf (x .stop) (t + x .tried) (r + x .rejected) (b + x .bytes)
+
+-- a run that began with the state w₀, at position `at`, with `tried` steps tried, `rejected` of them rejected, and the state w
+pub record Rest (w₀ log : List ℕ) (budget : ℕ) (w : List ℕ) (at tried rejected : ℕ) : Type 0 where
+  pub left : tried ≤ budget
+  pub within : at ≤ length log
+  pub fewer : rejected ≤ tried
+  pub advanced : tried ≤ at
+  pub report-is : runReport w₀ log budget ≡ counted tried rejected at (runReport w (drop at log) (budget - tried))
+  pub state-is : afterRun w₀ log budget ≡ afterRun w (drop at log) (budget - tried)
 
 pub rest-start : (w log : List ℕ) (budget : ℕ) → Rest w log budget w 0 0 0
 unfolding counted
@@ -167,7 +180,7 @@ module _ {w₀ log : List ℕ} {budget : ℕ} {w : List ℕ} {at tried rejected 
 
   -- the definition stops here: what was counted is the report, and the state is left
   pub stops : {x′ : Stop} → readLog (budget - tried) (drop at log) ≡ stopped x′
-      → (reported x′ tried rejected at ≡ runReport w₀ log budget) × (w ≡ afterRun w₀ log budget)
+      → (reportOf x′ tried rejected at ≡ runReport w₀ log budget) × (w ≡ afterRun w₀ log budget)
   unfolding runReport afterRun counted stopped rejectedIn afterAll
   stops {x′} e = (
     sym
@@ -177,17 +190,17 @@ module _ {w₀ log : List ℕ} {budget : ℕ} {w : List ℕ} {at tried rejected 
   )
 
   pub rest-end : tried < budget → readAt log at ≡ End
-      → (reported Ended tried rejected at ≡ runReport w₀ log budget) × (w ≡ afterRun w₀ log budget)
+      → (reportOf Ended tried rejected at ≡ runReport w₀ log budget) × (w ≡ afterRun w₀ log budget)
   rest-end h e = stops (reads-end log budget at tried h e)
 
   pub rest-damaged : (r : ℕ) → tried < budget → readAt log at ≡ Rejected r
-      → (reported (Damaged r) tried rejected at ≡ runReport w₀ log budget) × (w ≡ afterRun w₀ log budget)
+      → (reportOf (Damaged r) tried rejected at ≡ runReport w₀ log budget) × (w ≡ afterRun w₀ log budget)
   rest-damaged r h e = stops (reads-damage log budget at tried r h e)
 
   pub rest-ended : budget ≤ tried → length log ≤ at
-      → (reported Ended tried rejected at ≡ runReport w₀ log budget) × (w ≡ afterRun w₀ log budget)
+      → (reportOf Ended tried rejected at ≡ runReport w₀ log budget) × (w ≡ afterRun w₀ log budget)
   rest-ended h l = stops (reads-all log budget at tried h l)
 
   pub rest-spent : budget ≤ tried → at < length log
-      → (reported Spent tried rejected at ≡ runReport w₀ log budget) × (w ≡ afterRun w₀ log budget)
+      → (reportOf Spent tried rejected at ≡ runReport w₀ log budget) × (w ≡ afterRun w₀ log budget)
   rest-spent h l = stops (reads-part log budget at tried h l)

@@ -15,8 +15,13 @@ use Rattle.model.specs.Steps.{rejection, after}
 use Rattle.model.specs.Log.{readAt}
 use Rattle.model.proofs.WellFormedSteps.{kept, step-length}
 use Rattle.lookup.specs.Ready.{Formed}
-use Rattle.replay.specs.Run.{Running}
-use Rattle.replay.proofs.Rest.{rest-start, rest-step}
+use Rattle.replay.proofs.Rest.{Rest, rest-start, rest-step}
+
+-- the run's loop between two turns: the state is well-formed, and as long as it was
+pub record Running (w₀ log : List ℕ) (budget : ℕ) (w : List ℕ) (at tried rejected : ℕ) : Type 0 where
+  pub rest : Rest w₀ log budget w at tried rejected
+  pub formed : Formed w
+  pub long : length w ≡ length w₀
 
 -- a well-formed state stays so
 formed-after : {w : List ℕ} → Formed w → (s : Step) → Formed (after w s)
@@ -31,6 +36,10 @@ formed-after {w} f s =
 -- a step and its bytes, as the code has them
 pub read-as : (log : List ℕ) (at : ℕ) {s t : Step} {m n : ℕ} → readAt log at ≡ Read t (at + n) → s ≡ t → m ≡ n → readAt log at ≡ Read s (at + m)
 read-as log at e p q = e ∙ ap₂ (λ (x : Step) (k : ℕ). Read x (at + k)) (sym p) (sym q)
+
+-- what a step answers and leaves is what another that is the same does
+pub tried-as : (w : List ℕ) {v : List ℕ} {a : ℕ} {s t : Step} → s ≡ t → (a ≡ rejection w s) × (v ≡ after w s) → (a ≡ rejection w t) × (v ≡ after w t)
+tried-as w e f = rw e at f
 
 -- the number of shards stays
 pub counted-still : {w₀ log : List ℕ} {budget : ℕ} {w : List ℕ} {at tried rejected n : ℕ} → Running w₀ log budget w at tried rejected

@@ -15,7 +15,7 @@ use Rattle.model.specs.Members.{isHost}
 use Rattle.model.specs.Steps.{rejection, after}
 use Rattle.replay.specs.declared.tally.Tally.{Tally}
 use Rattle.replay.specs.Tally.{noHost, namedHost, countOf, isRejectionOf, rejectionsOf, hostCounts, tallyOf}
-use Rattle.replay.specs.Counts.{nothingCounted, countAt, countedIn, tallyFrom}
+use Rattle.replay.specs.Counts.{nothingCounted, countAt, countedIn}
 
 -- ---- one more in a count
 module _ (t : Tally) (long : length (t .hosts) ≡ noHost) where
@@ -58,6 +58,11 @@ count-most w s = go (ltb (namedHost w s) 16) refl
     go false e = omega arith
 
 -- ---- step after step
+-- a tally after some steps more
+unfoldable pub tallyFrom : Tally → List ℕ → List Step → Tally
+tallyFrom t w [] = t
+tallyFrom t w (s ∷ ss) = tallyFrom (cond (eqb (rejection w s) 0) t (countedIn t (countOf w s))) (after w s) ss
+
 -- what one step adds to count k
 step-adds : (t : Tally) → length (t .hosts) ≡ noHost → (w : List ℕ) (s : Step) (k : ℕ) → k ≤ noHost
     → countAt (cond (eqb (rejection w s) 0) t (countedIn t (countOf w s))) k ≡ countAt t k + cond (isRejectionOf k w s) 1 0

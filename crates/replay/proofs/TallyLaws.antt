@@ -13,12 +13,12 @@ use Rattle.model.specs.Steps.{rejection, after}
 use Rattle.model.specs.Log.{readLog}
 use Rattle.model.specs.Replay.{rejectedIn, replayed, report}
 use Rattle.replay.specs.Tally.{noHost, namedHost, countOf, isRejectionOf, rejectionsOf, hostCounts, tallyOf, tallyAfter}
-use Rattle.replay.specs.TallyLaws.{sum, total, isNamedIn, TallyLaws}
+use Rattle.replay.specs.TallyLaws.{sumOf, total, isNamedIn, TallyLaws}
 use Rattle.replay.proofs.Tallies.{count-most, host-count}
 
 -- ---- sums
-sum-snoc : (l : List ℕ) (x : ℕ) → sum (l ++ x ∷ []) ≡ sum l + x
-unfolding sum
+sum-snoc : (l : List ℕ) (x : ℕ) → sumOf (l ++ x ∷ []) ≡ sumOf l + x
+unfolding sumOf
 sum-snoc [] x = omega arith
 sum-snoc (y ∷ l) x = let e = sum-snoc l x in omega (arith, e)
 
@@ -38,8 +38,8 @@ one-more true c n = go (ltb c n) refl (eqb c n) refl
 
 -- what one step adds to the counts below n
 counts-add : (n : ℕ) (w : List ℕ) (s : Step) (ss : List Step)
-    → sum (hostCounts n w (s ∷ ss)) ≡ cond (not (eqb (rejection w s) 0) && ltb (countOf w s) n) 1 0 + sum (hostCounts n (after w s) ss)
-unfolding hostCounts sum rejectionsOf isRejectionOf
+    → sumOf (hostCounts n w (s ∷ ss)) ≡ cond (not (eqb (rejection w s) 0) && ltb (countOf w s) n) 1 0 + sumOf (hostCounts n (after w s) ss)
+unfolding hostCounts sumOf rejectionsOf isRejectionOf
 counts-add zero w s ss = go (not (eqb (rejection w s) 0))
   where
     go : (x : Bool) → _≡_ {A = ℕ} 0 (cond (x && ltb (countOf w s) 0) 1 0 + 0)
@@ -52,25 +52,25 @@ counts-add (suc n) w s ss =
     let right = sum-snoc (hostCounts n (after w s) ss) (rejectionsOf n (after w s) ss) in
     omega (arith, before, one, left, right)
 
-nothing-sums : (n : ℕ) (w : List ℕ) → sum (hostCounts n w []) ≡ 0
-unfolding hostCounts sum rejectionsOf
+nothing-sums : (n : ℕ) (w : List ℕ) → sumOf (hostCounts n w []) ≡ 0
+unfolding hostCounts sumOf rejectionsOf
 nothing-sums zero w = refl
 nothing-sums (suc n) w = sum-snoc (hostCounts n w []) 0 ∙ rw (nothing-sums n w)
 
 -- every rejection is in one of the seventeen
-all-sum : (ss : List Step) (w : List ℕ) → sum (hostCounts 17 w ss) ≡ rejectedIn w ss
+all-sum : (ss : List Step) (w : List ℕ) → sumOf (hostCounts 17 w ss) ≡ rejectedIn w ss
 unfolding rejectedIn
 all-sum [] w = nothing-sums 17 w
 all-sum (s ∷ ss) w =
     counts-add 17 w s ss
-    ∙ ap (λ (n : ℕ). n + sum (hostCounts 17 (after w s) ss)) (counted-once (eqb (rejection w s) 0))
+    ∙ ap (λ (n : ℕ). n + sumOf (hostCounts 17 (after w s) ss)) (counted-once (eqb (rejection w s) 0))
     ∙ ap (λ (n : ℕ). cond (eqb (rejection w s) 0) 0 1 + n) (all-sum ss (after w s))
   where
     counted-once : (x : Bool) → _≡_ {A = ℕ} (cond (not x && ltb (countOf w s) 17) 1 0) (cond x 0 1)
     counted-once true = refl
     counted-once false = let l : countOf w s < 17 = omega (arith, count-most w s) in rw (lt-ltb (countOf w s) 17 l)
 
-one-more-host : (n : ℕ) (w : List ℕ) (ss : List Step) → sum (hostCounts (suc n) w ss) ≡ sum (hostCounts n w ss) + rejectionsOf n w ss
+one-more-host : (n : ℕ) (w : List ℕ) (ss : List Step) → sumOf (hostCounts (suc n) w ss) ≡ sumOf (hostCounts n w ss) + rejectionsOf n w ss
 unfolding hostCounts
 one-more-host n w ss = sum-snoc (hostCounts n w ss) (rejectionsOf n w ss)
 

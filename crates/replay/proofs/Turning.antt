@@ -14,34 +14,25 @@ use Rattle.model.specs.declared.Reading.the-variants.{Step as Read}
 use Rattle.model.specs.declared.Stop.{Stop}
 use Rattle.model.specs.declared.Stop.the-variants.{Spent, Rejected as NotTried}
 use Rattle.model.specs.declared.Report.{Report}
-use Rattle.model.specs.Kinds.{kindOf}
-use Rattle.model.specs.Rules.{Known}
 use Rattle.model.specs.Steps.{rejection, after}
 use Rattle.model.specs.Log.{readAt, readLog, stopped}
 use Rattle.model.specs.Replay.{afterAll, replayRejection, replayed, report, afterReplay}
-use Rattle.model.proofs.RoundTrip.{step-given}
 use Rattle.model.proofs.WellFormedSteps.{step-length, after-rejected}
 use Rattle.replay.specs.declared.tally.Tally.{Tally}
 use Rattle.replay.specs.declared.turns.Progress.{Progress}
-use Rattle.replay.specs.Run.{reported, runReport, afterRun}
+use Rattle.replay.specs.Run.{reportOf, runReport, afterRun}
 use Rattle.replay.specs.Tally.{noHost, countOf, tallyAfter}
-use Rattle.replay.specs.Counts.{nothingCounted, countedIn, tallyFrom}
-use Rattle.replay.specs.Turns.{Underway, Tallying, Turned, begun, Rejected, Tried, ended, goesOn}
-use Rattle.replay.proofs.Rest.{read-step, reads-step, stops}
+use Rattle.replay.specs.Counts.{nothingCounted, countedIn}
+use Rattle.replay.specs.Turns.{begun, ended, goesOn}
+use Rattle.replay.proofs.Rest.{reads-step, stops}
 use Rattle.replay.proofs.Running.{start, turn-rejected, turn-accepted}
-use Rattle.replay.proofs.Tallies.{counted-at, counted-long, count-most, nothing-at, nothing-long, tally-from-nothing}
+use Rattle.replay.proofs.Tallies.{tallyFrom, counted-at, counted-long, count-most, nothing-at, nothing-long, tally-from-nothing}
+use Rattle.replay.proofs.Tallying.{Underway, Tallying, Turned}
 use Rattle.replay.proofs.Whole.{returned, formed}
 
 one-at-most : (b : Bool) → cond b 1 0 ≤ 1
 one-at-most true = omega arith
 one-at-most false = omega arith
-
--- a step that was read has a kind that is known
-known-step : (log : List ℕ) (at : ℕ) (s : Step) (next : ℕ) → readAt log at ≡ Read s next → Known (kindOf (s .kind))
-known-step log at s next e =
-    let d = read-step log at s next e in
-    let g = step-given (drop at log) (d .1) .writable in
-    record { notKept = g .notKept; known = g .known }
 
 -- ---- the whole replay, where its state is accepted
 module _ (w log : List ℕ) (budget : ℕ) (z : replayRejection w ≡ 0) where
@@ -59,11 +50,11 @@ module _ (w log : List ℕ) (budget : ℕ) (z : replayRejection w ≡ 0) where
 
 -- ---- the beginning; e is what the test of the state answered
 module _ (w : List ℕ) {e : ℕ} (q : e ≡ replayRejection w) where
-  pub begun-over : (e ≡ 0 → ⊥) → ended (reported (NotTried e) 0 0 0) ≡ begun w
+  pub begun-over : (e ≡ 0 → ⊥) → ended (reportOf (NotTried e) 0 0 0) ≡ begun w
   unfolding begun
   begun-over n = rw (sym q, ne-eqb e 0 n)
 
-  pub begun-on : e ≡ 0 → goesOn (reported Spent 0 0 0) 17 ≡ begun w
+  pub begun-on : e ≡ 0 → goesOn (reportOf Spent 0 0 0) 17 ≡ begun w
   unfolding begun
   begun-on z = rw (sym q, eq-eqb e 0 z)
 
@@ -74,8 +65,8 @@ module _ (w : List ℕ) {p : Progress} (e : p ≡ begun w) (t₀ : Tally) (log :
   begins-over g = rw e (go (eqb (replayRejection w) 0) refl (rw e at g))
     where
       go : (b : Bool) → eqb (replayRejection w) 0 ≡ b
-          → cond b (goesOn (reported Spent 0 0 0) 17) (ended (reported (NotTried (replayRejection w)) 0 0 0)) .going ≡ false
-          → Tallying t₀ w log budget w (cond b (goesOn (reported Spent 0 0 0) 17) (ended (reported (NotTried (replayRejection w)) 0 0 0))) t₀
+          → cond b (goesOn (reportOf Spent 0 0 0) 17) (ended (reportOf (NotTried (replayRejection w)) 0 0 0)) .going ≡ false
+          → Tallying t₀ w log budget w (cond b (goesOn (reportOf Spent 0 0 0) 17) (ended (reportOf (NotTried (replayRejection w)) 0 0 0))) t₀
       go true q h = absurd (true≢false h)
       go false q h =
           record {
@@ -90,8 +81,8 @@ module _ (w : List ℕ) {p : Progress} (e : p ≡ begun w) (t₀ : Tally) (log :
   begins-on g = rw e (go (eqb (replayRejection w) 0) refl (rw e at g))
     where
       go : (b : Bool) → eqb (replayRejection w) 0 ≡ b
-          → cond b (goesOn (reported Spent 0 0 0) 17) (ended (reported (NotTried (replayRejection w)) 0 0 0)) .going ≡ true
-          → Tallying t₀ w log budget w (cond b (goesOn (reported Spent 0 0 0) 17) (ended (reported (NotTried (replayRejection w)) 0 0 0))) nothingCounted
+          → cond b (goesOn (reportOf Spent 0 0 0) 17) (ended (reportOf (NotTried (replayRejection w)) 0 0 0)) .going ≡ true
+          → Tallying t₀ w log budget w (cond b (goesOn (reportOf Spent 0 0 0) 17) (ended (reportOf (NotTried (replayRejection w)) 0 0 0))) nothingCounted
       go true q h =
           let z : replayRejection w ≡ 0 = eqb-true (replayRejection w) 0 q in
           record {
@@ -112,7 +103,7 @@ module _ (w : List ℕ) {p : Progress} (e : p ≡ begun w) (t₀ : Tally) (log :
 module _ {w₀ log : List ℕ} {budget : ℕ} {w : List ℕ} {r : Report} {t : Tally} (t₀ : Tally) (u : Underway w₀ log budget w r t) where
   -- nothing more is read
   pub stops-here : {x : Stop} → readLog (budget - r .tried) (drop (r .bytes) log) ≡ stopped x
-      → Turned t₀ w₀ log budget r w (ended (reported x (r .tried) (r .rejected) (r .bytes))) t
+      → Turned t₀ w₀ log budget r w (ended (reportOf x (r .tried) (r .rejected) (r .bytes))) t
   unfolding stopped tallyFrom
   stops-here {x} e =
       record {
@@ -141,7 +132,7 @@ module _ {w₀ log : List ℕ} {budget : ℕ} {w : List ℕ} {r : Report} {t : T
     long-left : length v ≡ length w₀
     long-left = rw q (step-length w s) ∙ u .running .long
 
-    pub accepts-one : a ≡ 0 → Turned t₀ w₀ log budget r v (goesOn (reported Spent (r .tried + 1) (r .rejected) next) 17) t
+    pub accepts-one : a ≡ 0 → Turned t₀ w₀ log budget r v (goesOn (reportOf Spent (r .tried + 1) (r .rejected) next) 17) t
     accepts-one z =
         record {
           counts = λ l. absurd (omega (arith, l));
@@ -163,7 +154,7 @@ module _ {w₀ log : List ℕ} {budget : ℕ} {w : List ℕ} {r : Report} {t : T
 
     -- .. is counted
     pub rejects-one : (a ≡ 0 → ⊥) → r .rejected + 1 < 2 ^ 64 → {k : ℕ} → k ≡ countOf v s
-        → Turned t₀ w₀ log budget r v (goesOn (reported Spent (r .tried + 1) (r .rejected + 1) next) k) t
+        → Turned t₀ w₀ log budget r v (goesOn (reportOf Spent (r .tried + 1) (r .rejected + 1) next) k) t
     rejects-one n small {k} c =
         let no : rejection w s ≡ 0 → ⊥ = λ z. n (p ∙ z) in
         let here : k ≡ countOf w s = c ∙ ap (λ (x : List ℕ). countOf x s) (q ∙ after-rejected w s no) in
@@ -186,22 +177,4 @@ module _ {w₀ log : List ℕ} {budget : ℕ} {w : List ℕ} {r : Report} {t : T
           );
           skips = λ l. absurd (omega (arith, l, most));
           less = λ g. omega (arith, h);
-        }
-
-    -- .. and has a host to be looked for
-    has-host : (a ≡ 0 → ⊥) → Rejected v s a
-    has-host n =
-        let is : v ≡ w = q ∙ after-rejected w s (λ z. n (p ∙ z)) in
-        record {
-          formed = rw is (u .running .formed);
-          known = known-step log (r .bytes) s next e;
-          is = p ∙ rw is;
-        }
-
-    pub was-tried : budget < 2 ^ 64 → Tried v s a (r .tried) (r .rejected)
-    was-tried small =
-        record {
-          one-tried = omega (arith, h, small);
-          one-rejected = omega (arith, h, small, u .running .rest .fewer);
-          turned-back = has-host;
         }

@@ -18,9 +18,9 @@ use Rattle.model.proofs.Results.{replays}
 use Rattle.lookup.proofs.Formed.{formed-of}
 use Rattle.lookup.specs.Ready.{Formed}
 use Rattle.replay.specs.Returns.{Returns}
-use Rattle.replay.specs.Run.{reported, runReport, afterRun}
+use Rattle.replay.specs.Run.{reportOf, runReport, afterRun}
 
--- what is reported and left, in numbers and as a value
+-- what is reportOf and left, in numbers and as a value
 abbrev pub Reports : List ℕ → List ℕ → ℕ → Report → List ℕ → Type 0
 Reports w log budget r v =
     (stopNumber (r .stop) ≡ replayNumber w log budget)
@@ -41,7 +41,7 @@ returned w log budget p =
 
 -- r is what the test of the state answered
 module _ (w log : List ℕ) (budget : ℕ) {r : ℕ} (e : r ≡ replayRejection w) where
-  pub rejects : (r ≡ 0 → ⊥) → Reports w log budget (reported (Rejected r) 0 0 0) w
+  pub rejects : (r ≡ 0 → ⊥) → Reports w log budget (reportOf (Rejected r) 0 0 0) w
   unfolding report afterReplay replayed afterAll
   rejects n = reports w log budget (rw (sym e, ne-eqb r 0 n)) (rw (sym e, ne-eqb r 0 n))
 

@@ -1,4 +1,4 @@
--- What a replay reports and leaves is in the crate `model`; here are its tally and what the functions inside require.
+-- What a replay reports and leaves is in the crate `model`; here are its tally, and what the functions inside answer, leave and require.
 pub mod Counts
 pub mod Returns
 pub mod Run

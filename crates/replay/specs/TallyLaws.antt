@@ -1,4 +1,4 @@
--- What holds of every tally that a replay leaves (request A7).
+-- What holds of every tally that a replay leaves, as one claim (request A7). It is proved in `proofs/TallyLaws.antt` (`tally-laws`).
 use Prim.Native.Nat.{ℕ, _+_, _<_}
 use mathlib.Core.Path.{_≡_}
 use mathlib.Core.Bool.{Bool, false, _||_}
@@ -11,13 +11,13 @@ use Rattle.model.specs.Replay.{replayRejection, replayed, report}
 use Rattle.replay.specs.declared.tally.Tally.{Tally}
 use Rattle.replay.specs.Tally.{noHost, namedHost, tallyAfter}
 
-unfoldable pub sum : List ℕ → ℕ
-sum [] = 0
-sum (n ∷ ns) = n + sum ns
+unfoldable pub sumOf : List ℕ → ℕ
+sumOf [] = 0
+sumOf (n ∷ ns) = n + sumOf ns
 
 -- the seventeen counts together
 unfoldable pub total : Tally → ℕ
-total t = sum (t .hosts) + t .none
+total t = sumOf (t .hosts) + t .none
 
 -- a host that some step names
 unfoldable pub isNamedIn : ℕ → List ℕ → List Step → Bool

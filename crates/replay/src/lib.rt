@@ -5,7 +5,7 @@ mod turns;
 
 use log::long::is_long_add;
 use log::short::is_short;
-use machine::step_numbers;
+use machine::step_inside;
 use model::Reading;
 use model::Report;
 use model::Stop;
@@ -17,7 +17,7 @@ ghost use lib.ListN.{length};
 ghost use Rattle.model.specs.Replay.{rejectedIn, replayed, report, afterReplay};
 ghost use Rattle.model.specs.Results.{stopNumber, stopCode, replayNumber, replayCode, replayBytes};
 ghost use Rattle.lookup.specs.Ready.{Formed};
-ghost use Rattle.replay.specs.Run.{reported, runReport, afterRun};
+ghost use Rattle.replay.specs.Run.{reportOf, runReport, afterRun};
 
 // Replays a log with a budget of steps: how it stopped, the steps tried, those rejected, and the bytes of whole steps.
 pub fn replay(state: &mut [u64], log: &[u8], budget: u64) -> Report
@@ -41,7 +41,7 @@ pub fn replay(state: &mut [u64], log: &[u8], budget: u64) -> Report
     run(state, log, budget)
 }
 
-// The same on a state that is known to be well-formed. Most steps are short or adds, and are tried without the general reader.
+// The same on a state that is known to be well-formed. Most steps are short or adds, and are read without the general reader.
 fn run(state: &mut [u64], log: &[u8], budget: u64) -> Report
     requires { ⌜ Formed (now state) ⌝ }
     ensures { λ r. ⌜ r ≡ runReport (now (state .entry)) (now (log .entry)) budget ⌝ }
@@ -52,25 +52,16 @@ fn run(state: &mut [u64], log: &[u8], budget: u64) -> Report
     let mut tried: u64 = 0;
     let mut rejected: u64 = 0;
     while tried < budget {
-        if is_short(log, at) {
-            let s = log::short::step(log, at);
-            let answer = step_numbers(state, shards, s.kind, s.a, s.b, s.c, s.d);
-            rejected = counted_more(rejected, answer);
-            tried += 1;
-            at += log::short::length(log, at);
-            continue;
-        }
-        if is_long_add(log, at) {
-            let s = log::long::step(log, at);
-            let answer = step_numbers(state, shards, s.kind, s.a, s.b, s.c, s.d);
-            rejected = counted_more(rejected, answer);
-            tried += 1;
-            at += log::long::length(log, at);
-            continue;
-        }
-        match log::reader::read_step(log, at) {
+        let reading = if is_short(log, at) {
+            log::short::reading(log, at)
+        } else if is_long_add(log, at) {
+            log::long::reading(log, at)
+        } else {
+            log::reader::read_step(log, at)
+        };
+        match reading {
             Reading::Step { step, next } => {
-                let answer = step_numbers(state, shards, step.kind, step.a, step.b, step.c, step.d);
+                let answer = step_inside(state, shards, step);
                 rejected = counted_more(rejected, answer);
                 tried += 1;
                 at = next;
@@ -99,7 +90,7 @@ fn counted_more(rejected: u64, answer: u64) -> u64
 
 // A report.
 fn stopped(stop: Stop, tried: u64, rejected: u64, at: usize) -> Report
-    ensures { λ r. ⌜ r ≡ reported stop tried rejected at ⌝ }
+    ensures { λ r. ⌜ r ≡ reportOf stop tried rejected at ⌝ }
 {
     Report {
         stop,

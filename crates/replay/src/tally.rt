@@ -1,6 +1,6 @@
 // A tally of rejections: a count for each host, and one for the steps that name none.
 ghost use mathlib.Core.Path.{_≡_};
-ghost use Rattle.replay.specs.Counts.{countedIn, nothingCounted, Room};
+ghost use Rattle.replay.specs.Counts.{countedIn, nothingCounted, CountRoom};
 
 // Hosts are 0 to 15. The number after them is that of the count of no host.
 pub const HOSTS: usize = 16;
@@ -24,7 +24,7 @@ pub fn zero() -> Tally
 
 // Adds one to the count of a host, in place; to that of no host where the number is no host's.
 pub fn count(tally: &mut Tally, host: u64)
-    requires { ⌜ Room (now tally) host ⌝ }
+    requires { ⌜ CountRoom (now tally) host ⌝ }
     ensures { λ _. ⌜ now (tally .exit) ≡ countedIn (now (tally .entry)) host ⌝ }
 {
     if host < NO_HOST {

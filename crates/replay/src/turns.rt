@@ -3,14 +3,16 @@ use crate::stopped;
 use crate::tally::NO_HOST;
 use log::long::is_long_add;
 use log::short::is_short;
-use machine::step_numbers;
+use machine::step_inside;
 use model::Reading;
 use model::Report;
 use model::Stop;
 use model::step::Step;
 ghost use mathlib.Core.Path.{_≡_};
+ghost use Prim.Native.Nat.{_≤_};
+ghost use Rattle.lookup.specs.Ready.{Formed};
 ghost use Rattle.replay.specs.Tally.{namedHost, countOf};
-ghost use Rattle.replay.specs.Turns.{begun, Turning, turnOf, turnState, Tried, turnTried, Rejected, ended, goesOn};
+ghost use Rattle.replay.specs.Turns.{begun, turnOf, turnState, TriedStep, turnTried, RejectedStep, ended, goesOn};
 
 // No count is to be one more.
 const NO_COUNT: u64 = 17;
@@ -34,9 +36,10 @@ pub fn begin(state: &mut [u64]) -> Progress
     on(stopped(Stop::Spent, 0, 0, 0), NO_COUNT)
 }
 
-// The next step is tried; or the replay is over, where the budget is used up or no whole step is left.
+// The next step is tried; or the replay is over, where the budget is used up or no whole step is left. A report of no more steps rejected than tried
+// has room for one more of each below its budget. A usual step is read anew once it was tried: kept, it would be copied for the call.
 pub fn turn(state: &mut [u64], log: &[u8], budget: u64, before: Report) -> Progress
-    requires { ⌜ Turning (now state) (now log) budget before ⌝ }
+    requires { ⌜ Formed (now state) × (before .rejected ≤ before .tried) ⌝ }
     ensures { λ r. ⌜ (r ≡ turnOf (now (state .entry)) (now (log .entry)) budget before)
         × (now (state .exit) ≡ turnState (now (state .entry)) (now (log .entry)) budget before) ⌝ }
 {
@@ -51,20 +54,32 @@ pub fn turn(state: &mut [u64], log: &[u8], budget: u64, before: Report) -> Progr
     }
     let shards = wellformed::shard_count(state.len());
     if is_short(log, at) {
-        let s = log::short::step(log, at);
-        let answer = step_numbers(state, shards, s.kind, s.a, s.b, s.c, s.d);
-        let next = at + log::short::length(log, at);
-        return tried_one(state, s, answer, tried, rejected, next);
+        let answer = step_inside(state, shards, log::short::step(log, at));
+        let next = at + log::short::byte_count(log, at);
+        return tried_one(
+            state,
+            log::short::step(log, at),
+            answer,
+            tried,
+            rejected,
+            next,
+        );
     }
     if is_long_add(log, at) {
-        let s = log::long::step(log, at);
-        let answer = step_numbers(state, shards, s.kind, s.a, s.b, s.c, s.d);
-        let next = at + log::long::length(log, at);
-        return tried_one(state, s, answer, tried, rejected, next);
+        let answer = step_inside(state, shards, log::long::step(log, at));
+        let next = at + log::long::byte_count(log, at);
+        return tried_one(
+            state,
+            log::long::step(log, at),
+            answer,
+            tried,
+            rejected,
+            next,
+        );
     }
     match log::reader::read_step(log, at) {
         Reading::Step { step, next } => {
-            let answer = step_numbers(state, shards, step.kind, step.a, step.b, step.c, step.d);
+            let answer = step_inside(state, shards, step);
             tried_one(state, step, answer, tried, rejected, next)
         }
         Reading::End => over(stopped(Stop::Ended, tried, rejected, at)),
@@ -81,7 +96,7 @@ fn tried_one(
     rejected: u64,
     next: usize,
 ) -> Progress
-    requires { ⌜ Tried (now state) s answer tried rejected ⌝ }
+    requires { ⌜ TriedStep (now state) s answer tried rejected ⌝ }
     ensures { λ r. ⌜ r ≡ turnTried (now (state .entry)) s answer tried rejected next ⌝ }
 {
     if answer == 0 {
@@ -93,7 +108,7 @@ fn tried_one(
 
 // The count that a rejection goes to: that of the acting host, or of none.
 fn count_of(state: &[u64], s: Step, answer: u64) -> u64
-    requires { ⌜ Rejected (now state) s answer ⌝ }
+    requires { ⌜ RejectedStep (now state) s answer ⌝ }
     ensures { λ r. ⌜ r ≡ countOf (now (state .entry)) s ⌝ }
 {
     let host = named_host(state, s, answer);
@@ -105,7 +120,7 @@ fn count_of(state: &[u64], s: Step, answer: u64) -> u64
 
 // The acting host of a step that was rejected: the named one; of an add, the orderer of the configuration named, and none where it was rejected by 7 or 10.
 fn named_host(state: &[u64], s: Step, answer: u64) -> u64
-    requires { ⌜ Rejected (now state) s answer ⌝ }
+    requires { ⌜ RejectedStep (now state) s answer ⌝ }
     ensures { λ r. ⌜ r ≡ namedHost (now (state .entry)) s ⌝ }
 {
     let named = s.host(NO_HOST);

@@ -1,6 +1,6 @@
 -- The words of a configuration's replicas are alike where their histories are.
 -- Assumes nothing.
-use Prim.Native.Nat.{ℕ, _+_, _≤_, _<_}
+use Prim.Native.Nat.{ℕ, _+_, _*_, _≤_, _<_}
 use native.Mathlib.Omega.{arith}
 use mathlib.Core.Path.{_≡_, sym, ap, ap₂, _∙_}
 use mathlib.Core.Bool.{_&&_}
@@ -18,10 +18,8 @@ use Rattle.model.proofs.WellFormedParts.{part-is-words}
 use Rattle.model.proofs.WellFormedMembers.{size-few}
 use Rattle.lookup.specs.Ready.{Ready, Placed}
 use Rattle.replica_steps.specs.AlikeWords.{Compared, alikeEntry, alikeAt, allAlikeAt}
-use Rattle.replica_steps.specs.Seats.{seatsAt}
 use Rattle.lookup.proofs.Fields.{formed}
 use Rattle.lookup.proofs.Words.{length-word, entry-word}
-use Rattle.replica_steps.proofs.SeatCounts.{replica-at, seats-size}
 
 alike-words : (w : List ℕ) (n own q : ℕ) → n ≤ 56 → part w own ≡ replicaWords (replicaAt w own) → part w q ≡ replicaWords (replicaAt w q)
     → alikeAt w n own q ≡ alike n (replicaAt w own .history) (replicaAt w q .history)
@@ -31,6 +29,10 @@ alike-words w n own q h d e =
     (same-below n _ _ (λ p l. ap₂ eqb (entry-word w q e p (omega arith)) (entry-word w own d p (omega arith))))
 
 -- ---- the replicas of a configuration
+
+replica-at : (z j k : ℕ) → place z j 0 + k * 64 ≡ place z j k
+unfolding place
+replica-at z j k = omega arith
 
 module _ {w : List ℕ} {z j : ℕ} (r : Ready w z j) where
   few : size (members w z j) ≤ 4
@@ -42,18 +44,15 @@ module _ {w : List ℕ} {z j : ℕ} (r : Ready w z j) where
       part-is-words (shardsOf (length w)) j _ (part w (place z j k))
       (formed (r .state) .parts z j k (r .shard) (r .configuration) (omega (arith, few)))
 
-  pub replicas-fit : (c : Configuration) → c ≡ configuration w z j → c .place + 256 ≤ length w
-  unfolding configuration place
-  replicas-fit c e = omega (arith, ap (λ (k : Configuration). k .place) e, r .shard, r .configuration, r .state .long)
+  -- c and s are the configuration and its size, as the code has them
+  module _ (c : Configuration) (s n own : ℕ) (ec : c ≡ configuration w z j) (es : s ≡ size (c .members)) (h : n ≤ 56) where
+    size-is : s ≡ size (members w z j)
+    unfolding configuration
+    size-is = es ∙ ap (λ (k : Configuration). size (k .members)) ec
 
-  -- c and s are the configuration and the count of its seats, as the code has them
-  module _ (c : Configuration) (s n own : ℕ) (ec : c ≡ configuration w z j) (es : s ≡ seatsAt w (c .place)) (h : n ≤ 56) where
     place-is : c .place ≡ place z j 0
     unfolding configuration
     place-is = ap (λ (k : Configuration). k .place) ec
-
-    size-is : s ≡ size (members w z j)
-    size-is = es ∙ ap (seatsAt w) place-is ∙ seats-size r
 
     pub compared : Placed w own → Compared w (c .place) s n own
     unfolding place

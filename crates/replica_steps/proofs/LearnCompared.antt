@@ -1,26 +1,24 @@
 -- How the comparison of replicas by their words ends.
 -- Assumes nothing.
 use Prim.Native.Nat.{ℕ, _+_, _-_, _*_, _≤_, _<_}
-use native.Mathlib.Decide.{decLt}
 use native.Mathlib.Omega.{arith}
-use mathlib.Core.Path.{_≡_, refl, sym, ap, ap₂, _∙_}
-use mathlib.Core.Bool.{Bool, true, false, not, and-false}
+use mathlib.Core.Path.{_≡_, refl, sym, ap₂, _∙_}
+use mathlib.Core.Bool.{Bool, true, false, and-false}
 use mathlib.Core.List.{List}
 use lib.Dec.{leb, eqb}
 use lib.ListN.{length, getD, take, drop, length-take, length-drop}
 use lib.Seq.{getD-take, getD-drop}
-use borrow.Author.Tests.{le-leb, lt-leb, eq-eqb, ne-eqb, not-true, not-false}
+use borrow.Author.Tests.{le-leb, lt-leb, eq-eqb, ne-eqb}
 use Rattle.model.specs.Tests.{allBelow}
 use Rattle.model.proofs.Tests.{both, below-all}
-use Rattle.model.proofs.Ranges.{more, fails, alike as same-below}
+use Rattle.model.proofs.Ranges.{more, fails}
 use Rattle.replica_steps.specs.AlikeWords.{Compared, alikeEntry, alikeAt, allAlikeAt}
-use Rattle.replica_steps.specs.Turns.{turnAlike}
-use Rattle.replica_steps.proofs.Turns.{sameWord, turn-passes, turn-fails}
+use Rattle.replica_steps.specs.Turns.{agreeing}
+use Rattle.replica_steps.proofs.Turns.{agreeing-first}
 
--- ---- one replica
+-- ---- n entries of the replica at a place, as they are cut from the state
 
--- n entries of the replica at a place, as a turn has them
-abbrev pub cut : List ℕ → ℕ → ℕ → List ℕ
+abbrev cut : List ℕ → ℕ → ℕ → List ℕ
 cut w n at = take (at + 8 + n - (at + 8)) (drop (at + 8) w)
 
 module _ (w : List ℕ) (n at : ℕ) where
@@ -30,61 +28,51 @@ module _ (w : List ℕ) (n at : ℕ) where
   cut-word : (i : ℕ) → i < n → getD (cut w n at) i 0 ≡ getD w (at + 8 + i) 0
   cut-word i h = getD-take (at + 8 + n - (at + 8)) (drop (at + 8) w) i 0 (omega arith) ∙ getD-drop (at + 8) w i 0
 
+-- ---- one replica
+
 module _ (w : List ℕ) (n own q : ℕ) where
-  -- the entries before p are alike
+  -- the first p entries are alike
   pub record Entries (p : ℕ) : Type 0 where
-    pub alike : (i : ℕ) → i < p → i < n → alikeEntry w own q i ≡ true
+    pub most : p ≤ n
+    pub alike : true ≡ allBelow p (alikeEntry w own q)
 
-  pub no-entry : Entries 0
-  no-entry = record { alike = λ i h l. absurd (omega arith) }
-
-  -- a replica's own are
-  pub own-entries : q ≡ own → Entries n
+  -- those that `agreeing` tells of
+  agreed : q + 64 ≤ length w → n ≤ 56 → Entries (agreeing (cut w n q) (cut w n own))
   unfolding alikeEntry
-  own-entries e = record { alike = λ i h l. eq-eqb (getD w (q + 8 + i) 0) (getD w (own + 8 + i) 0) (rw e) }
+  agreed h l =
+      let f = agreeing-first (cut w n q) (cut w n own) in
+      let m : agreeing (cut w n q) (cut w n own) ≤ n = omega (arith, f .most, cut-length w n q h l) in
+      record {
+        most = m;
+        alike =
+            sym
+            (below-all (agreeing (cut w n q) (cut w n own)) (alikeEntry w own q)
+            (λ i k. sym (ap₂ eqb (cut-word w n q i (omega arith)) (cut-word w n own i (omega arith))) ∙ f .alike i k));
+      }
+
+  pub next-entry : (p : ℕ) → p < n → Entries p → getD w (q + 8 + p) 0 ≡ getD w (own + 8 + p) 0 → Entries (p + 1)
+  unfolding alikeEntry
+  next-entry p h e d =
+      record {
+        most = omega arith;
+        alike = more p (alikeEntry w own q) (e .alike) (sym (eq-eqb (getD w (q + 8 + p) 0) (getD w (own + 8 + p) 0) d));
+      }
 
   all-entries : (p : ℕ) → n ≤ getD w (q + 1) 0 → n ≤ p → Entries p → alikeAt w n own q ≡ true
   unfolding alikeAt
   all-entries p a h e =
-      both (leb n (getD w (q + 1) 0)) (allBelow n (alikeEntry w own q)) .1 (
-        le-leb n (getD w (q + 1) 0) a,
-        below-all n (alikeEntry w own q) (λ i l. e .alike i (omega arith) l),
-      )
+      let s : p ≡ n = omega (arith, e .most) in
+      both (leb n (getD w (q + 1) 0)) (allBelow n (alikeEntry w own q)) .1 (le-leb n (getD w (q + 1) 0) a, sym (rw s at (e .alike)))
 
   short : getD w (q + 1) 0 < n → alikeAt w n own q ≡ false
   unfolding alikeAt
   short h = rw (lt-leb n (getD w (q + 1) 0) h)
 
-  -- a turn: the words that are compared lie in the state
-  module _ (fits : q + 64 ≤ length w) (own-fits : own + 64 ≤ length w) (few : n ≤ 56) where
-    entry-cut : (i : ℕ) → i < n → sameWord (cut w n q) (cut w n own) i ≡ alikeEntry w own q i
-    unfolding alikeEntry
-    entry-cut i h = ap₂ eqb (cut-word w n q i h) (cut-word w n own i h)
-
-    cuts-match : length (cut w n q) ≡ length (cut w n own)
-    cuts-match = cut-length w n q fits few ∙ sym (cut-length w n own own-fits few)
-
-    next-entries : (p m : ℕ) → m ≤ p + 8 → Entries p → turnAlike (cut w n q) (cut w n own) p ≡ true → Entries m
-    next-entries p m s e t =
-        record {
-          alike = λ i h l.
-              elim (decLt i p) [
-                | yes b ↦ e .alike i b l
-                | no b ↦
-                    sym (entry-cut i l)
-                    ∙ turn-passes (cut w n q) (cut w n own) p t i (omega arith) (omega arith) (omega (arith, cut-length w n q fits few))
-              ];
-        }
-
-    differing : (p : ℕ) → turnAlike (cut w n q) (cut w n own) p ≡ false → false ≡ allBelow n (alikeEntry w own q)
-    differing p t =
-        turn-fails (cut w n q) (cut w n own) p t
-        ∙ ap (λ (m : ℕ). allBelow m (sameWord (cut w n q) (cut w n own))) (cut-length w n q fits few)
-        ∙ same-below n _ _ entry-cut
-
-    differs : (p : ℕ) → turnAlike (cut w n q) (cut w n own) p ≡ false → alikeAt w n own q ≡ false
-    unfolding alikeAt
-    differs p t = rw (← differing p t) (and-false (leb n (getD w (q + 1) 0)))
+  differs : (p : ℕ) → p < n → (getD w (q + 8 + p) 0 ≡ getD w (own + 8 + p) 0 → ⊥) → alikeAt w n own q ≡ false
+  unfolding alikeAt alikeEntry
+  differs p h d =
+      rw (← fails n p (alikeEntry w own q) h (sym (ne-eqb (getD w (q + 8 + p) 0) (getD w (own + 8 + p) 0) d)))
+      (and-false (leb n (getD w (q + 1) 0)))
 
 -- ---- all replicas
 
@@ -100,6 +88,17 @@ module _ (w : List ℕ) (first size n own : ℕ) where
   pub no-replica : Replicas 0
   unfolding allBelow
   no-replica = record { most = omega arith; alike = refl }
+
+  -- replica k lies in the state, and its comparison begins where `agreeing` says
+  module _ (c : Compared w first size n own) (k : ℕ) (h : k < size) where
+    fits : first + k * 64 + 64 ≤ length w
+    fits = omega (arith, c .fits)
+
+    pub cuts-match : length (cut w n (first + k * 64)) ≡ length (cut w n own)
+    cuts-match = cut-length w n (first + k * 64) fits (c .few) ∙ sym (cut-length w n own (c .own-fits) (c .few))
+
+    pub begun : {p : ℕ} → p ≡ agreeing (cut w n (first + k * 64)) (cut w n own) → Entries w n own (first + k * 64) p
+    begun e = rw e (agreed w n own (first + k * 64) fits (c .few))
 
   pub next-replica : (k p : ℕ) → k < size → Replicas k → n ≤ getD w (first + k * 64 + 1) 0 → n ≤ p → Entries w n own (first + k * 64) p
       → Replicas (k + 1)
@@ -122,19 +121,7 @@ module _ (w : List ℕ) (first size n own : ℕ) where
   unfolding isAlike
   ended-short k h e = stopped k h (short w n own (first + k * 64) e)
 
-  -- a turn of replica k's comparison, with its outcome t
-  module _ (c : Compared w first size n own) (k : ℕ) (h : k < size) where
-    fits : first + k * 64 + 64 ≤ length w
-    fits = omega (arith, c .fits)
-
-    pub turn-room : length (cut w n (first + k * 64)) ≡ length (cut w n own)
-    turn-room = cuts-match w n own (first + k * 64) fits (c .own-fits) (c .few)
-
-    module _ (p : ℕ) {t : Bool} (e : t ≡ turnAlike (cut w n (first + k * 64)) (cut w n own) p) where
-      -- it tells of eight entries, not more
-      pub next-turn : {m : ℕ} → Entries w n own (first + k * 64) p → not t ≡ false → m ≤ p + 8 → Entries w n own (first + k * 64) m
-      next-turn {m} d f s = next-entries w n own (first + k * 64) fits (c .own-fits) (c .few) p m s d (sym e ∙ not-false t f)
-
-      pub ended-differing : not t ≡ true → eqb k size ≡ allAlikeAt w first size n own
-      unfolding isAlike
-      ended-differing f = stopped k h (differs w n own (first + k * 64) fits (c .own-fits) (c .few) p (sym e ∙ not-true t f))
+  pub ended-differing : (k p : ℕ) → k < size → p < n → (getD w (first + k * 64 + 8 + p) 0 ≡ getD w (own + 8 + p) 0 → ⊥)
+      → eqb k size ≡ allAlikeAt w first size n own
+  unfolding isAlike
+  ended-differing k p h l d = stopped k h (differs w n own (first + k * 64) p l d)

@@ -12,6 +12,7 @@ use Rattle.model.specs.declared.configuration.Configuration.{Configuration}
 use Rattle.model.specs.Checks.{firstOf}
 use Rattle.model.specs.Kinds.{isKept, isUnknown, namesHost}
 use Rattle.model.specs.Rules.{Known, mostFourth}
+use Rattle.model.specs.Members.{size}
 use Rattle.model.specs.Configuration.{configuration}
 use Rattle.model.specs.Steps.{areNumbers, kindChecks, kindEffect}
 use Rattle.model.specs.Learn.{learnChecks, learnEffect}
@@ -24,7 +25,6 @@ use Rattle.lookup.proofs.Seats.{At, at-found, early, words-at}
 use Rattle.lookup.proofs.Stores.{store-stable}
 use Rattle.lookup.proofs.KindAnswers.{rejects, accepts, fourth-small, ready-host}
 use Rattle.replica_steps.specs.AlikeWords.{Compared, allAlikeAt}
-use Rattle.replica_steps.specs.Seats.{seatsAt}
 use Rattle.replica_steps.proofs.LearnAlike.{compared, all-alike-words}
 
 pub known : Known Learn
@@ -64,8 +64,8 @@ module _ {w : List ℕ} {m z j : ℕ} (p : ReadyKind w m z j) (h n : ℕ) {b : B
             (simp (at .there, at .member, at .replica-is, active-word, eq-eqb _ _ active, stable-word, le-ltb _ _ q))
             (λ o. omega arith)
 
-        -- c and k are the configuration and the count of its seats, as the code has them
-        module _ (above : getD w (r .place + 2) 0 < n) {c : Configuration} (ec : c ≡ configuration w z j) {k : ℕ} (ek : k ≡ seatsAt w (c .place)) where
+        -- c and k are the configuration and its size, as the code has them
+        module _ (above : getD w (r .place + 2) 0 < n) {c : Configuration} (ec : c ≡ configuration w z j) {k : ℕ} (ek : k ≡ size (c .members)) where
           pub comparable : Placed w (r .place) → Compared w (c .place) k n (r .place)
           comparable f = compared (p .ready) c k n (r .place) ec ek few f
 

@@ -7,7 +7,6 @@ pub mod AddSteps
 pub mod WedgeSteps
 -- Learn
 pub mod Turns
-pub mod SeatCounts
 pub mod LearnCompared
 pub mod LearnAlike
 pub mod LearnSteps

@@ -1,4 +1,5 @@
--- What an add requires: a proper entry, and the orderer of the configuration, which acts; and what the orderer's history tells of the entry.
+-- What an add requires: the orderer of the configuration, which acts; what its test of issues requires: a proper entry; and what the orderer's history
+-- tells of the entry.
 use Prim.Native.Nat.{ℕ}
 use mathlib.Core.Path.{_≡_}
 use mathlib.Core.Bool.{true, not}

@@ -2,4 +2,3 @@
 pub mod Adds
 pub mod AlikeWords
 pub mod Turns
-pub mod Seats

@@ -1,5 +1,5 @@
 -- Words of two lists compared in turns of eight.
-use Prim.Native.Nat.{ℕ, _+_, _-_, min}
+use Prim.Native.Nat.{ℕ, zero, suc, _+_, _-_, _/_}
 use mathlib.Core.Bool.{Bool, cond}
 use mathlib.Core.List.{List}
 use lib.Dec.{ltb, eqb}
@@ -10,6 +10,12 @@ use Rattle.model.specs.Tests.{allBelow}
 unfoldable pub wordsAlike : List ℕ → List ℕ → ℕ → ℕ → Bool
 wordsAlike a b i n = allBelow n (λ k. eqb (getD a (i + k) 0) (getD b (i + k) 0))
 
--- so are those of the turn at p: all where they are fewer than eight, else eight, from p on or the last eight
-unfoldable pub turnAlike : List ℕ → List ℕ → ℕ → Bool
-turnAlike a b p = cond (ltb (length a) 8) (wordsAlike a b 0 (length a)) (wordsAlike a b (min p (length a - 8)) 8)
+-- how many first words agree, the turns going on from p with so many before the last one, which has the last eight words: all words where every turn
+-- agrees, else those before the first turn that does not
+unfoldable pub agreeingFrom : ℕ → List ℕ → List ℕ → ℕ → ℕ
+agreeingFrom zero a b p = cond (wordsAlike a b (length a - 8) 8) (length a) p
+agreeingFrom (suc t) a b p = cond (wordsAlike a b p 8) (agreeingFrom t a b (p + 8)) p
+
+-- the same from the first word on; none where there are no eight words
+unfoldable pub agreeing : List ℕ → List ℕ → ℕ
+agreeing a b = cond (ltb (length a) 8) 0 (agreeingFrom ((length a - 1) / 8) a b 0)

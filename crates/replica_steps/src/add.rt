@@ -25,7 +25,7 @@ fn may_issue(state: &[u64], z: usize, e: u64) -> bool
     state[shard * SHARD_WORDS] == z as u64
 }
 
-// Adds an entry where its orderer acts: 0 and the entry added, or the rejection (10, 12, 17, 15, 23, 16) and the state as it was.
+// Adds an entry where its orderer acts: 0 and the entry added, or the rejection (7, 10, 12, 17, 15, 23, 16) and the state as it was.
 pub fn add(
     state: &mut [u64],
     shards: usize,

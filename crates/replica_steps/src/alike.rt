@@ -2,22 +2,7 @@
 ghost use mathlib.Core.Path.{_≡_};
 ghost use Prim.Native.Nat.{_+_, _≤_};
 ghost use lib.ListN.{length};
-ghost use Rattle.replica_steps.specs.Turns.{wordsAlike, turnAlike};
-
-// Whether all words are alike, one by one.
-fn few_alike(a: &[u64], b: &[u64]) -> bool
-    requires { ⌜ length (now a) ≡ length (now b) ⌝ }
-    ensures { λ r. ⌜ r ≡ wordsAlike (now (a .entry)) (now (b .entry)) 0 (length (now (a .entry))) ⌝ }
-{
-    let mut i = 0;
-    while i < a.len() {
-        if a[i] != b[i] {
-            return false;
-        }
-        i += 1;
-    }
-    true
-}
+ghost use Rattle.replica_steps.specs.Turns.{wordsAlike, agreeing};
 
 // Whether the eight words from i on are alike: their differences are joined, and tested once.
 fn eight_alike(a: &[u64], b: &[u64], i: usize) -> bool
@@ -36,18 +21,23 @@ fn eight_alike(a: &[u64], b: &[u64], i: usize) -> bool
     differences == 0
 }
 
-// A turn of a comparison, at p: the eight words from there on, or the last eight where fewer are left, or all where there are no eight.
-pub fn turn_alike(a: &[u64], b: &[u64], p: usize) -> bool
+// How many first words of two lists agree, told in turns of eight, the last one with the last eight words: all, or those before the first turn that
+// differs. Of fewer than eight words it tells nothing.
+pub fn agreeing(a: &[u64], b: &[u64]) -> usize
     requires { ⌜ length (now a) ≡ length (now b) ⌝ }
-    ensures { λ r. ⌜ r ≡ turnAlike (now (a .entry)) (now (b .entry)) p ⌝ }
+    ensures { λ r. ⌜ r ≡ agreeing (now (a .entry)) (now (b .entry)) ⌝ }
 {
     let n = a.len();
     if n < 8 {
-        return few_alike(a, b);
+        return 0;
     }
     let last = n - 8;
-    if p < last {
-        return eight_alike(a, b, p);
+    let mut p = 0;
+    while p < last {
+        if !eight_alike(a, b, p) {
+            return p;
+        }
+        p += 8;
     }
-    eight_alike(a, b, last)
+    if eight_alike(a, b, last) { n } else { p }
 }

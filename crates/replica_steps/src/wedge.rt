@@ -6,7 +6,7 @@ use model::layout::IMMUTABLE;
 ghost use mathlib.Core.Path.{_≡_};
 ghost use Rattle.lookup.specs.Kinds.{ReadyKind, kindAnswer, kindAfter};
 
-// Wedges a host's replica: 0 and the replica immutable, or the rejection (10, 11, 12) and the state as it was.
+// Wedges a host's replica: 0 and the replica immutable, or the rejection (7, 10, 11, 12) and the state as it was.
 pub fn wedge(state: &mut [u64], shards: usize, z: usize, j: usize, host: u64, d: u64) -> u64
     requires { ⌜ ReadyKind (now state) shards z j ⌝ }
     ensures { λ r. ⌜ r ≡ kindAnswer (Kind.Wedge) (now (state .entry)) z j host d ⌝ }

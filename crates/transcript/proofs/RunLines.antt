@@ -12,9 +12,9 @@ use Rattle.model.specs.declared.Stop.{Stop}
 use Rattle.model.specs.Steps.{rejection, after}
 use Rattle.model.specs.Log.{readAt, readLog, stopped}
 use Rattle.model.specs.Transcript.{stepLines, programBudget}
-use Rattle.replay.specs.Run.{afterRun, Running}
+use Rattle.replay.specs.Run.{afterRun}
 use Rattle.replay.proofs.Rest.{reads-step, stops}
-use Rattle.replay.proofs.Running.{start, turn-rejected, turn-accepted}
+use Rattle.replay.proofs.Running.{Running, start, turn-rejected, turn-accepted}
 use Rattle.model.proofs.Progress.{Progress, progress-first, progress-room, progress-next, progress-end}
 use Rattle.transcript.specs.declared.steps.Printed.{Printed}
 use Rattle.transcript.specs.Text.{stepLine, runLines, printedAs, printed, RunRoom}

@@ -11,14 +11,15 @@ use lib.Seq.{sets}
 use borrow.Author.Tests.{lt-ltb, le-ltb}
 use Rattle.model.specs.Members.{size}
 use Rattle.model.specs.Setup.{planMembers}
-use Rattle.model.specs.Transcript.{newline, tooLongWords, shardLine, lastLine, programPlan, programStart, programBudget, lines, longestLog, tooLong, transcript}
+use Rattle.model.specs.Transcript.{newline, tooLongWords, shardLine, lastLine, programPlan, programStart, programBudget, lines, longestLog, tooLong}
+use Rattle.model.specs.Transcript.{transcript}
 use Rattle.model.specs.declared.Report.{Report}
 use Rattle.model.specs.Replay.{afterReplay}
 use Rattle.model.proofs.WellFormed.{WellFormed, is-well-formed}
 use Rattle.model.proofs.ProgramStart.{start-formed}
 use Rattle.lookup.specs.Ready.{Formed}
 use Rattle.setup.specs.Planned.{Planned}
-use Rattle.replay.specs.Run.{reported, runReport, afterRun}
+use Rattle.replay.specs.Run.{reportOf, runReport, afterRun}
 use Rattle.lookup.proofs.Formed.{formed-of}
 use Rattle.model.proofs.Progress.{Progress, progress-first, progress-room, progress-next}
 use Rattle.transcript.specs.declared.steps.Printed.{Printed}
@@ -75,15 +76,15 @@ module _ (log out : List ℕ) (room : length (lines log) ≤ length out) {w : Li
     state-is : w₂ ≡ left log
     state-is = r .1 .0 ∙ ap (λ (x : List ℕ). afterRun x log programBudget) begins
 
-    report-is : reported (p .stop) (p .tried) (p .rejected) (p .bytes) ≡ runReport programStart log programBudget
+    report-is : reportOf (p .stop) (p .tried) (p .rejected) (p .bytes) ≡ runReport programStart log programBudget
     unfolding printed
     report-is =
-        ap (λ (x : Printed). reported (x .stop) (x .tried) (x .rejected) (x .bytes)) (r .0)
+        ap (λ (x : Printed). reportOf (x .stop) (x .tried) (x .rejected) (x .bytes)) (r .0)
         ∙ ap (λ (x : List ℕ). runReport x log programBudget) begins
 
     -- the lines of the shards and the last one are left to write
     pub run-written : Progress out 0 (lines log) out₁ (p .end)
-        (shardLine w₂ 0 ++ (shardLine w₂ 1 ++ lastLine (reported (p .stop) (p .tried) (p .rejected) (p .bytes))))
+        (shardLine w₂ 0 ++ (shardLine w₂ 1 ++ lastLine (reportOf (p .stop) (p .tried) (p .rejected) (p .bytes))))
     unfolding printed
     run-written =
         let end = ap (λ (x : Printed). x .end) (r .0) ∙ ap (λ (x : List ℕ). length (runLines x log)) begins in

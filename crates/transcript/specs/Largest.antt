@@ -1,4 +1,4 @@
--- The largest text that can occur.
+-- The largest text that can occur, as one claim. It is proved in `proofs/LargestText.antt` (`text-most`).
 use Prim.Native.Nat.{ℕ, _≤_}
 use mathlib.Core.List.{List}
 use lib.ListN.{length}

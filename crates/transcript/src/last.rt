@@ -9,7 +9,7 @@ ghost use Prim.Native.Nat.{_+_, _≤_};
 ghost use lib.ListN.{length};
 ghost use lib.Seq.{sets};
 ghost use Rattle.model.specs.Transcript.{stopText, lastLine};
-ghost use Rattle.replay.specs.Run.{reported};
+ghost use Rattle.replay.specs.Run.{reportOf};
 
 // How a replay stopped, then the steps tried, those rejected, and the bytes of whole steps.
 pub fn write_last(
@@ -20,9 +20,9 @@ pub fn write_last(
     rejected: u64,
     bytes: u64,
 ) -> usize
-    requires { ⌜ at + length (lastLine (reported stop tried rejected bytes)) ≤ length (now out) ⌝ }
-    ensures { λ r. ⌜ r ≡ at + length (lastLine (reported stop tried rejected bytes)) ⌝ }
-    ensures { λ _. ⌜ now (out .exit) ≡ sets (now (out .entry)) at (lastLine (reported stop tried rejected bytes)) ⌝ }
+    requires { ⌜ at + length (lastLine (reportOf stop tried rejected bytes)) ≤ length (now out) ⌝ }
+    ensures { λ r. ⌜ r ≡ at + length (lastLine (reportOf stop tried rejected bytes)) ⌝ }
+    ensures { λ _. ⌜ now (out .exit) ≡ sets (now (out .entry)) at (lastLine (reportOf stop tried rejected bytes)) ⌝ }
 {
     let a = write_stop(out, at, stop);
     let b = write_spaced(out, a, tried);

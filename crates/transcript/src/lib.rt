@@ -3,7 +3,7 @@ use model::Writing;
 use text_parts::bytes::write_bytes;
 ghost use mathlib.Core.Path.{_≡_};
 ghost use Prim.Native.Nat.{_≤_};
-ghost use lib.ListN.{length as count, take};
+ghost use lib.ListN.{length, take};
 ghost use Rattle.model.specs.Transcript.{transcript};
 ghost use Rattle.model.specs.Results.{writingNumber, writingCount};
 ghost use Rattle.transcript.specs.Text.{textRejection, textCount, textWriting, afterText};
@@ -29,19 +29,19 @@ pub fn transcript(log: &[u8], out: &mut [u8]) -> Writing
         return Writing::Bytes(text::write_text(log, out));
     }
     let mut space = [0u8; MOST];
-    let length = text::write_text(log, &mut space);
-    deliver(out, &space, length)
+    let len = text::write_text(log, &mut space);
+    deliver(out, &space, len)
 }
 
-// Hands a text, the first `length` bytes of a space, to an output that is long enough.
-fn deliver(out: &mut [u8], space: &[u8], length: usize) -> Writing
-    requires { ⌜ length ≤ count (now space) ⌝ }
-    ensures { λ r. ⌜ r ≡ textWriting (now (out .entry)) (take length (now (space .entry))) ⌝ }
-    ensures { λ _. ⌜ now (out .exit) ≡ afterText (now (out .entry)) (take length (now (space .entry))) ⌝ }
+// Hands a text, the first `len` bytes of a space, to an output: its length, or rejection 8 where the output is too short, which leaves it untouched.
+fn deliver(out: &mut [u8], space: &[u8], len: usize) -> Writing
+    requires { ⌜ len ≤ length (now space) ⌝ }
+    ensures { λ r. ⌜ r ≡ textWriting (now (out .entry)) (take len (now (space .entry))) ⌝ }
+    ensures { λ _. ⌜ now (out .exit) ≡ afterText (now (out .entry)) (take len (now (space .entry))) ⌝ }
 {
-    if out.len() < length {
+    if out.len() < len {
         return Writing::Rejected(8);
     }
-    write_bytes(out, 0, &space[..length]);
-    Writing::Bytes(length)
+    write_bytes(out, 0, &space[..len]);
+    Writing::Bytes(len)
 }

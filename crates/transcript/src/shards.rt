@@ -6,7 +6,7 @@ use histories::pick::longest;
 use model::layout::ENTRIES;
 use model::layout::STABLE;
 ghost use mathlib.Core.Path.{_≡_};
-ghost use Prim.Native.Nat.{_+_, _≤_};
+ghost use Prim.Native.Nat.{_+_};
 ghost use lib.ListN.{length};
 ghost use lib.Seq.{sets};
 ghost use Rattle.model.specs.Transcript.{spacedAll, shardLine};

@@ -1,6 +1,9 @@
 // The lines of the steps: each step of the log is read, tried and printed.
 use crate::number::write_newline;
 use crate::number::write_spaced;
+use log::long::is_long_add;
+use log::short::is_short;
+use machine::step_inside;
 use model::Reading;
 use model::Stop;
 use text_parts::number::write_number;
@@ -37,18 +40,17 @@ pub fn write_steps(state: &mut [u64], log: &[u8], out: &mut [u8]) -> Printed
     let mut rejected: u64 = 0;
     let mut end: usize = 0;
     while tried < BUDGET {
-        match log::reader::read_step(log, at) {
+        let reading = if is_short(log, at) {
+            log::short::reading(log, at)
+        } else if is_long_add(log, at) {
+            log::long::reading(log, at)
+        } else {
+            log::reader::read_step(log, at)
+        };
+        match reading {
             Reading::Step { step, next } => {
                 let kind = step.kind;
-                let answer = machine::step_numbers(
-                    state,
-                    shards,
-                    kind,
-                    step.a,
-                    step.b,
-                    step.c,
-                    step.d,
-                );
+                let answer = step_inside(state, shards, step);
                 if answer != 0 {
                     rejected += 1;
                 }

@@ -8,5 +8,4 @@ pub mod Shards
 pub mod Takes
 pub mod Shapes
 pub mod Lengths
-pub mod Ones
 pub mod Marks

@@ -30,7 +30,7 @@ pub fn is_proper_issue(shards: usize, e: u64) -> bool
     if shards as u64 <= entry::issue_shard(e) {
         return false;
     }
-    members::is_appointed(entry::issue_members(e), entry::issue_orderer(e))
+    members::is_configuration(entry::issue_members(e), entry::issue_orderer(e))
 }
 
 // Whether a word is a proper entry. A take is told by one comparison, before issues are looked at.

@@ -48,13 +48,18 @@ pub fn all_takes(words: &[u64]) -> bool
     (joined | before) < 4294967296
 }
 
-// Whether all words are proper entries, tested one by one.
+// Whether all words are proper entries, tested one by one, two halves side by side as above: each has its own jump on takes, which is foretold better.
 pub fn each_entry(words: &[u64], shards: usize) -> bool
     ensures { λ r. ⌜ r ≡ allOf (isEntry shards) (now (words .entry)) ⌝ }
 {
+    let from = words.len() / 2;
+    let half = words.len() - from;
     let mut i = 0;
-    while i < words.len() {
+    while i < half {
         if !entry::is_entry(shards, words[i]) {
+            return false;
+        }
+        if !entry::is_entry(shards, words[from + i]) {
             return false;
         }
         i += 1;

@@ -45,7 +45,7 @@ add-requires c κs =
     record {
       kind = ready r (z .shard .ensures);
       ordered =
-          orders r (z .shard .ensures) (sym (o .of .ensures) ∙ c .before .enum-told .given .1) add-steps.known _ (h .host .ensures) refl
+          orders r (z .shard .ensures) (sym (o .of .ensures .1 .1) ∙ c .before .enum-told .given .1) add-steps.known _ (h .host .ensures) refl
           ∙ ap (λ (k : Configuration). k .orderer) (h .before .configuration-of .ensures);
     }
 
@@ -111,7 +111,8 @@ returns c =
     let d = c .before .before in
     let k = d .before .before .before .before in
     let z = k .before .before .before .before .before in
-    by-numbers (z .before .before .pre) (z .shard .ensures) (sym (k .of .ensures) ∙ d .before .before .enum-told .given .1) add-steps.known (d .add .ensures)
+    by-numbers (z .before .before .pre) (z .shard .ensures) (sym (k .of .ensures .1 .1) ∙ d .before .before .enum-told .given .1) add-steps.known
+    (d .add .ensures)
 
 same-length-2 : tie.Need-same-length-2
 same-length-2 c = search needs
@@ -122,7 +123,7 @@ returns-2 c =
     let d = c .before .before in
     let k = d .before .before .before .before in
     let z = k .before .before .before .before .before in
-    by-host (z .before .before .pre) (z .shard .ensures) (sym (k .of .ensures) ∙ d .before .before .enum-told2 .given .1) adopt-steps.known _
+    by-host (z .before .before .pre) (z .shard .ensures) (sym (k .of .ensures .1 .1) ∙ d .before .before .enum-told2 .given .1) adopt-steps.known _
     (k .before .host .ensures) refl (d .adopt .ensures)
 
 same-length-3 : tie.Need-same-length-3
@@ -134,7 +135,7 @@ returns-3 c =
     let d = c .before .before in
     let k = d .before .before .before .before in
     let z = k .before .before .before .before .before in
-    by-host (z .before .before .pre) (z .shard .ensures) (sym (k .of .ensures) ∙ d .before .before .enum-told3 .given .1) learn-steps.known _
+    by-host (z .before .before .pre) (z .shard .ensures) (sym (k .of .ensures .1 .1) ∙ d .before .before .enum-told3 .given .1) learn-steps.known _
     (k .before .host .ensures) refl (d .learn .ensures)
 
 same-length-4 : tie.Need-same-length-4
@@ -146,7 +147,7 @@ returns-4 c =
     let d = c .before .before in
     let k = d .before .before .before .before in
     let z = k .before .before .before .before .before in
-    by-host (z .before .before .pre) (z .shard .ensures) (sym (k .of .ensures) ∙ d .before .before .enum-told4 .given .1) wedge-steps.known _
+    by-host (z .before .before .pre) (z .shard .ensures) (sym (k .of .ensures .1 .1) ∙ d .before .before .enum-told4 .given .1) wedge-steps.known _
     (k .before .host .ensures) refl (d .wedge .ensures)
 
 same-length-5 : tie.Need-same-length-5
@@ -158,7 +159,7 @@ returns-5 c =
     let d = c .before .before in
     let k = d .before .before .before .before in
     let z = k .before .before .before .before .before in
-    by-host (z .before .before .pre) (z .shard .ensures) (sym (k .of .ensures) ∙ d .before .before .enum-told5 .given .1) install-steps.known _
+    by-host (z .before .before .pre) (z .shard .ensures) (sym (k .of .ensures .1 .1) ∙ d .before .before .enum-told5 .given .1) install-steps.known _
     (k .before .host .ensures) refl (d .install .ensures)
 
 same-length-6 : tie.Need-same-length-6
@@ -170,7 +171,7 @@ returns-6 c =
     let d = c .before .before in
     let k = d .before .before .before .before in
     let z = k .before .before .before .before .before in
-    by-host (z .before .before .pre) (z .shard .ensures) (sym (k .of .ensures) ∙ d .before .before .enum-told6 .given .1) (inheriting .known) _
+    by-host (z .before .before .pre) (z .shard .ensures) (sym (k .of .ensures .1 .1) ∙ d .before .before .enum-told6 .given .1) (inheriting .known) _
     (k .before .host .ensures) refl (d .inherit .ensures)
 
 same-length-7 : tie.Need-same-length-7
@@ -182,7 +183,7 @@ returns-7 c =
     let d = c .before .before in
     let k = d .before .before .before .before in
     let z = k .before .before .before .before .before in
-    by-host (z .before .before .pre) (z .shard .ensures) (sym (k .of .ensures) ∙ d .before .before .enum-told7 .given .1) (catching-up .known) _
+    by-host (z .before .before .pre) (z .shard .ensures) (sym (k .of .ensures .1 .1) ∙ d .before .before .enum-told7 .given .1) (catching-up .known) _
     (k .before .host .ensures) refl (d .catch-up .ensures)
 
 same-length-8 : tie.Need-same-length-8
@@ -191,7 +192,7 @@ same-length-8 c = search needs
 returns-8 : tie.Need-returns-8
 returns-8 c =
     let k = c .before .before in
-    kept-for-later (k .before .before .before .before .before .before .before .pre) (sym (k .of .ensures) ∙ c .enum-told8 .given .1)
+    kept-for-later (k .before .before .before .before .before .before .before .pre) (sym (k .of .ensures .1 .1) ∙ c .enum-told8 .given .1)
 
 same-length-9 : tie.Need-same-length-9
 same-length-9 c = search needs
@@ -199,7 +200,7 @@ same-length-9 c = search needs
 returns-9 : tie.Need-returns-9
 returns-9 c =
     let k = c .before .before in
-    no-kind (k .before .before .before .before .before .before .before .pre) (sym (k .of .ensures) ∙ c .enum-told9 .given .1)
+    no-kind (k .before .before .before .before .before .before .before .pre) (sym (k .of .ensures .1 .1) ∙ c .enum-told9 .given .1)
 
 pub act-spec : {M : Type 1} → statement M
 act-spec =

@@ -8,7 +8,7 @@ use Rattle.penkwadar.proofs.print.Tie as tie
 slice-aggregate-write-all : tie.Need-slice-aggregate-write-all
 slice-aggregate-write-all c =
     let s = c .before .before in
-    sym (length-take-le (s .args .length) (s .args .out .now) (s .pre))
+    sym (length-take-le (s .args .len) (s .args .out .now) (s .pre))
 
 write-all-requires : tie.Need-write-all-requires
 write-all-requires c κs = search needs

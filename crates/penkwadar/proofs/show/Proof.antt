@@ -23,8 +23,8 @@ slice-aggregate-transcript c = search needs
 transcript-requires : tie.Need-transcript-requires
 transcript-requires c κs = search needs
 
-enum-known-length : tie.Need-enum-known-length
-enum-known-length c = search needs
+enum-known-len : tie.Need-enum-known-len
+enum-known-len c = search needs
 
 slice-aggregate-print : tie.Need-slice-aggregate-print
 slice-aggregate-print c = search needs
@@ -33,7 +33,7 @@ print-requires : tie.Need-print-requires
 print-requires c κs =
     let l = c .before .before in
     let e = l .before .before .before .transcript .ensures in
-    within _ _ (e .1 .0) (e .1 .1 .1) (l .length .given .1)
+    within _ _ (e .1 .0) (e .1 .1 .1) (l .len .given .1)
 
 enum-told : tie.Need-enum-told
 enum-told c = search needs
@@ -50,7 +50,7 @@ show-spec =
     (tie.spec
     slice-aggregate-transcript
     transcript-requires
-    enum-known-length
+    enum-known-len
     slice-aggregate-print
     print-requires
     enum-told

@@ -1,7 +1,7 @@
 -- `histories::copy::copy_entries` meets its contract.
 use native.Mathlib.Omega.{arith}
 use mathlib.Core.Path.{_∙_}
-use Rattle.histories.proofs.Listings.{rejects-room, copies}
+use Rattle.histories.proofs.Listings.{copied, rejects-room, copies}
 use borrow.Author.Needs.{needs}
 use Rattle.histories.proofs.copy.copy_entries.Statement.{statement}
 use Rattle.histories.proofs.copy.copy_entries.Tie as tie
@@ -18,7 +18,8 @@ shared-slice-read-count c = search needs
 returns : tie.Need-returns
 returns c =
     let s = c .before .before .before .before in
-    rejects-room (s .args .state .now) (s .args .place) (s .args .out .now) (s .pre) (omega (arith, c .if1))
+    let e = rejects-room (s .args .state .now) (s .args .place) (s .args .out .now) (s .pre) (omega (arith, c .if1)) in
+    copied _ _ _ (e .0) (e .1)
 
 add-from : tie.Need-add-from
 add-from c = search needs
@@ -49,7 +50,7 @@ returns-2 c =
     let t = c .before .before .before .before .before in
     let s = t .before .before .before .before in
     let e = copies (s .args .state .now) (s .args .place) (s .args .out .now) (s .pre) (omega (arith, t .if1)) in
-    (e .0, c .before .before .copy .ensures ∙ e .1)
+    copied _ _ _ (e .0) (c .before .before .copy .ensures ∙ e .1)
 
 pub copy-entries-spec : {M : Type 1} → statement M
 copy-entries-spec =

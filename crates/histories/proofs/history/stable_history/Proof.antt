@@ -56,7 +56,7 @@ returns-4 c =
     let l = c .before .before .before .before in
     let a = l .before .before .before .before .before .before .before .before .args in
     let e = lists (a .state .now) (a .shard) (a .out .now) (longest-requires (l .before) (l .longest .lifetimes)) (l .longest .ensures) in
-    let d = c .before .before .copy-entries .ensures in
+    let d = c .before .before .copy-entries .ensures .1 .1 in
     answers (a .state .now) (a .shard) (a .out .now) (d .0 ∙ e .0) (d .1 ∙ e .1)
 
 pub stable-history-spec : {M : Type 1} → statement M

@@ -29,7 +29,7 @@ returns-2 c =
     let f = t .before .before in
     let a = f .before .before .before .args in
     let e = shows (a .state .now) (a .shard) (a .index) (a .host) (a .out .now) (f .find-seat .ensures) (t .if1 .left) in
-    let d = c .before .before .copy-entries .ensures in
+    let d = c .before .before .copy-entries .ensures .1 .1 in
     answers (a .state .now) (a .shard) (a .index) (a .host) (a .out .now) (d .0 ∙ e .0) (d .1 ∙ e .1)
 
 pub stable-prefix-spec : {M : Type 1} → statement M

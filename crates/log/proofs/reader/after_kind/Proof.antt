@@ -14,7 +14,7 @@ rules-requires c κs = search needs
 returns : tie.Need-returns
 returns c =
     let r = c .before .before in
-    kind-rejected _ _ _ _ (rejection-told _ (r .before .of .ensures) (r .rules .ensures)) (c .if1 .taken)
+    kind-rejected _ _ _ _ (rejection-told _ (r .before .of .ensures .1 .1) (r .rules .ensures)) (c .if1 .taken)
 
 read-a-requires : tie.Need-read-a-requires
 read-a-requires c κs = search needs
@@ -23,7 +23,7 @@ returns-2 : tie.Need-returns-2
 returns-2 c =
     let r = c .before .before .before in
     let a = r .before .before .before .args in
-    let k = known-told _ (r .before .of .ensures) (r .rules .ensures) (c .before .if1 .left) in
+    let k = known-told _ (r .before .of .ensures .1 .1) (r .rules .ensures) (c .before .if1 .left) in
     kind-taken (a .log .now) (a .at) (a .kind) k (c .read-a .ensures)
 
 pub after-kind-spec : {M : Type 1} → statement M

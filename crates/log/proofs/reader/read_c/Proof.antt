@@ -31,7 +31,7 @@ used-requires c κs = search needs
 
 -- how many numbers the kind uses
 used-number : (c : tie.After-used) → c .used .result ≡ usedNumbers (kindOf (c .before .before .before .before .before .before .before .args .kind))
-used-number c = rw (c .before .of .ensures) at (c .used .ensures)
+used-number c = rw (c .before .of .ensures .1 .1) at (c .used .ensures)
 
 read-d-requires : tie.Need-read-d-requires
 read-d-requires c κs = search needs
@@ -43,7 +43,8 @@ returns c =
     let s = u .before .before .before .before .before in
     let a = s .before .before .args in
     rw (le-leb 4 (usedNumbers (kindOf (a .kind))) (rw (used-number u) at (c .before .if1 .taken)))
-    (step-more (a .kind) (a .a ∷ a .b ∷ []) (a .log .now) (a .at) (s .read-number .ensures) 1 (u .before .before .before .value .given .1) (c .read-d .ensures))
+    (step-more (a .kind) (a .a ∷ a .b ∷ []) (a .log .now) (a .at) (s .read-number .ensures) 1 (u .before .before .before .value .given .1)
+    (c .read-d .ensures))
 
 enum-known-r : tie.Need-enum-known-r
 enum-known-r c = search needs

@@ -24,7 +24,7 @@ entry c = c .before .before .before .before .before .before
 known : (c : tie.After-used) → Known (kindOf (entry c .args .s .kind))
 known c =
     let r = c .before .before .before in
-    known-told _ (r .before .of .ensures) (r .rules .ensures) (c .before .if1 .left)
+    known-told _ (r .before .of .ensures .1 .1) (r .rules .ensures) (c .before .if1 .left)
 
 -- the numbers can be written
 small : (c : tie.Else2) → let s = entry (c .before .before) .args .s in writable s (usedBy s) ≡ true
@@ -49,7 +49,7 @@ returns : tie.Need-returns
 returns c =
     let r = c .before .before in
     let a = r .before .before .before .args in
-    let e = rejection-told _ (r .before .of .ensures) (r .rules .ensures) in
+    let e = rejection-told _ (r .before .of .ensures .1 .1) (r .rules .ensures) in
     let f = kind-refused (a .out .now) (a .at) (a .s) _ e (c .if1 .taken) in
     writes-at (a .out .now) (a .at) (a .s) (f .answer) (f .untouched)
 

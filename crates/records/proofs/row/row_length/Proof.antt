@@ -31,7 +31,8 @@ add-result-2 : tie.Need-add-result-2
 add-result-2 c =
     let w = c .before in
     let a = w .before .before .args in
-    omega (arith, w .before .width .ensures, w .width2 .ensures, c .kind-length .ensures, decimal-most (a .shard), decimal-most (a .place), kind-most (a .entry))
+    let e = c .kind-length .ensures in
+    omega (arith, w .before .width .ensures, w .width2 .ensures, e, decimal-most (a .shard), decimal-most (a .place), kind-most (a .entry))
 
 width-requires-3 : tie.Need-width-requires-3
 width-requires-3 c κs = search needs

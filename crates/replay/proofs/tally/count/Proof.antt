@@ -46,7 +46,7 @@ use denote.Triple.Walked.{says, needs, Stays, stay-ref, stay-none, walkOf, AllGo
 use denote.Exit.{yes}
 use Rattle.model.specs.Members.{isHost}
 use Rattle.replay.specs.declared.tally.Tally.{Tally}
-use Rattle.replay.specs.Counts.{countAt, countedIn, Room}
+use Rattle.replay.specs.Counts.{countAt, countedIn, CountRoom}
 use Rattle.replay.proofs.tally.Tally as T
 use Rattle.replay.proofs.tally.Tally.Laws as T′
 use Rattle.replay.proofs.tally.count.Key.{name as #replay·tally·count}
@@ -98,11 +98,11 @@ room-none : (t : Bool) → T (not t) → (h : Tally) (k : ℕ) → cond t (getD 
 room-none true y h k r = absurd y
 room-none false y h k r = r
 
-fits-host : (h : Tally) (k : ℕ) → T (ltb k 16) → Room h k → getD (h .hosts) k 0 + 1 < 2 ^ 64
+fits-host : (h : Tally) (k : ℕ) → T (ltb k 16) → CountRoom h k → getD (h .hosts) k 0 + 1 < 2 ^ 64
 unfolding countAt isHost
 fits-host h k y r = room-host (ltb k 16) y h k (r .fits)
 
-fits-none : (h : Tally) (k : ℕ) → T (not (ltb k 16)) → Room h k → h .none + 1 < 2 ^ 64
+fits-none : (h : Tally) (k : ℕ) → T (not (ltb k 16)) → CountRoom h k → h .none + 1 < 2 ^ 64
 unfolding countAt isHost
 fits-none h k y r = room-none (ltb k 16) y h k (r .fits)
 
@@ -166,7 +166,7 @@ abbrev stayed : Stays (f.ended .signature .params) (f.ended .kept)
 stayed = (stay-ref (0 ∷ []) tt (plain (λ _. T.the-row)), (stay-none (λ _. u64) yes, tt))
 
 module _ {M : Type 1} (𝓤 : URA M) (H : Heap 𝓤) (A : Atoms 𝓤) (W : Given 𝓤 H A) (at-mem : Memory → SProp 𝓤) (run : Routine → Fun 𝓤)
-    (κ : Lft) (q : Share) (b o : ℕ) (γ : GName) (h : Tally) (k : ℕ) (room : Room h k) where
+    (κ : Lft) (q : Share) (b o : ℕ) (γ : GName) (h : Tally) (k : ℕ) (room : CountRoom h k) where
   abbrev x : Arg
   x = (record { ptr = (b, o); name = γ; now = h }, (k, tt))
 
@@ -271,7 +271,7 @@ module _ {M : Type 1} (𝓤 : URA M) (H : Heap 𝓤) (A : Atoms 𝓤) (W : Given
   walks : (C : Calls 𝓤 H) (Λ : Loops 𝓤 H) → Walks 𝓤 H A f.ended stayed (WpFn 𝓤 H C Λ code.function) (f.clauses 𝓤 H A at-mem run)
   walks C Λ = walked 𝓤 H A f.ended stayed (f.clauses 𝓤 H A at-mem run) (WpFn 𝓤 H C Λ code.function)
       (λ κs. (ptr-vals, (uint-vals w64, tt))) (λ κs. (mut-tells (named 0) (κs .0) T.the-row, (uint-tells w64, tt)))
-      (λ κs qs bounds a _ _. needs 𝓤 (Room (a .0 .now) (a .1 .0)) _ (λ room.
+      (λ κs qs bounds a _ _. needs 𝓤 (CountRoom (a .0 .now) (a .1 .0)) _ (λ room.
       walk 𝓤 H A W at-mem run (κs .0) (qs .0) (a .0 .ptr .0) (a .0 .ptr .1) (a .0 .name) (a .0 .now) (a .1 .0) room C Λ))
 
   goes : AllGo 𝓤 H A W 1 (f.signature .params) (f.ended .kept) stayed

@@ -3,7 +3,6 @@ use native.Mathlib.Omega.{arith}
 use Rattle.model.specs.declared.kind.Kind.the-variants.{Learn}
 use Rattle.lookup.proofs.KindAnswers.{out-of-range}
 use Rattle.replica_steps.proofs.LearnSteps.{known, named, nowhere, not-active, not-above, comparable, unlike, done}
-use Rattle.replica_steps.proofs.LearnAlike.{replicas-fit}
 use borrow.Author.Needs.{needs}
 use Rattle.replica_steps.proofs.learn.learn.Statement.{statement}
 use Rattle.replica_steps.proofs.learn.learn.Tie as tie
@@ -67,8 +66,11 @@ returns-4 c =
 configuration-of-requires : tie.Need-configuration-of-requires
 configuration-of-requires c κs = search needs
 
-seats-requires : tie.Need-seats-requires
-seats-requires c κs = replicas-fit (search needs) _ (c .before .configuration-of .ensures)
+size-requires : tie.Need-size-requires
+size-requires c κs = search needs
+
+cast-all-alike : tie.Need-cast-all-alike
+cast-all-alike c = search needs
 
 all-alike-requires : tie.Need-all-alike-requires
 all-alike-requires c κs =
@@ -79,7 +81,7 @@ all-alike-requires c κs =
     let f = i .before .before in
     let n = f .before .before .before in
     comparable (n .before .before .pre) _ _ (n .are-numbers .ensures) (f .before .before .if1 .left) (f .find .ensures .0)
-    (i .if2 .left) (a .if3 .left) (omega (arith, l .if4 .left)) (k .configuration-of .ensures) (c .seats .ensures) (f .find .ensures .1)
+    (i .if2 .left) (a .if3 .left) (omega (arith, l .if4 .left)) (k .configuration-of .ensures) (c .size .ensures) (f .find .ensures .1)
 
 same-length-4 : tie.Need-same-length-4
 same-length-4 c = search needs
@@ -93,7 +95,7 @@ returns-5 c =
     let f = i .before .before in
     let n = f .before .before .before in
     unlike (n .before .before .pre) _ _ (n .are-numbers .ensures) (f .before .before .if1 .left) (f .find .ensures .0)
-    (i .if2 .left) (a .if3 .left) (omega (arith, l .if4 .left)) (k .configuration-of .ensures) (c .before .before .seats .ensures)
+    (i .if2 .left) (a .if3 .left) (omega (arith, l .if4 .left)) (k .configuration-of .ensures) (c .before .before .size .ensures)
     (c .before .all-alike .ensures) (c .if5 .taken)
 
 add-state : tie.Need-add-state
@@ -117,7 +119,7 @@ returns-6 c =
     let f = i .before .before in
     let n = f .before .before .before in
     done (n .before .before .pre) _ _ (n .are-numbers .ensures) (f .before .before .if1 .left) (f .find .ensures .0)
-    (i .if2 .left) (a .if3 .left) (omega (arith, l .if4 .left)) (k .configuration-of .ensures) (c .before .before .seats .ensures)
+    (i .if2 .left) (a .if3 .left) (omega (arith, l .if4 .left)) (k .configuration-of .ensures) (c .before .before .size .ensures)
     (c .before .all-alike .ensures) (c .if5 .left)
 
 pub learn-spec : {M : Type 1} → statement M
@@ -139,7 +141,8 @@ learn-spec =
     same-length-3
     returns-4
     configuration-of-requires
-    seats-requires
+    size-requires
+    cast-all-alike
     all-alike-requires
     same-length-4
     returns-5

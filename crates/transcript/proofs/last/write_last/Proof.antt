@@ -2,7 +2,7 @@
 use Prim.Native.Nat.{ℕ}
 use mathlib.Core.List.{List, [], _++_}
 use Rattle.model.specs.Transcript.{spaced, newline, stopText, lastLine}
-use Rattle.replay.specs.Run.{reported}
+use Rattle.replay.specs.Run.{reportOf}
 use Rattle.model.proofs.Progress.{Progress, progress-first, progress-next, progress-room, progress-last, progress-end}
 use Rattle.transcript.proofs.last.write_last.Statement.{statement}
 use Rattle.transcript.proofs.last.write_last.Tie as tie
@@ -37,7 +37,7 @@ from-tried s = spaced (s .args .tried) ++ from-rejected s
 abbrev Left : tie.Start → List ℕ → ℕ → List ℕ → Type 0
 Left s out p rest =
     let a = s .args in
-    Progress (a .out .now) (a .at) (lastLine (reported (a .stop) (a .tried) (a .rejected) (a .bytes))) out p rest
+    Progress (a .out .now) (a .at) (lastLine (reportOf (a .stop) (a .tried) (a .rejected) (a .bytes))) out p rest
 
 at-stop : (s : tie.Start) → Left s (s .args .out .now) (s .args .at) (stopText (s .args .stop) ++ (from-tried s))
 unfolding lastLine

@@ -6,7 +6,7 @@ use mathlib.Core.Path.{_≡_, refl, _∙_}
 use mathlib.Core.List.{List, [], _++_}
 use lib.ListN.{length}
 use Rattle.model.specs.Transcript.{programPlan, programStart, shardLine, lastLine, lines}
-use Rattle.replay.specs.Run.{reported}
+use Rattle.replay.specs.Run.{reportOf}
 use Rattle.histories.specs.History.{OfShard}
 use Rattle.model.proofs.Progress.{Progress, progress-next, progress-room, progress-last, progress-end}
 use Rattle.transcript.proofs.WholeText.{planned, run-room, run-written, of-shard}
@@ -37,7 +37,7 @@ abbrev left : tie.After-write-steps → List ℕ
 left c = c .write-steps .last .0
 
 abbrev last : tie.After-write-steps → List ℕ
-last c = let p = c .write-steps .result in lastLine (reported (p .stop) (p .tried) (p .rejected) (p .bytes))
+last c = let p = c .write-steps .result in lastLine (reportOf (p .stop) (p .tried) (p .rejected) (p .bytes))
 
 of-state : (c : tie.After-write-steps) (z : ℕ) → z < 2 → OfShard (left c) z
 of-state c z h =

@@ -1,8 +1,7 @@
 -- `wellformed::entry::is_proper_issue` meets its contract.
-use native.Mathlib.Omega.{arith}
 use mathlib.Core.Path.{sym}
 use borrow.Author.Tests.{lt-ltb, le-ltb}
-use Rattle.model.specs.Entries.{isProperIssue, issueMembers, issueOrderer}
+use Rattle.model.specs.Entries.{isProperIssue}
 use Rattle.wellformed.proofs.Marks.{mark-low, mark-high, mark-between}
 use borrow.Author.Needs.{needs}
 use Rattle.wellformed.proofs.entry.is_proper_issue.Statement.{statement}
@@ -35,12 +34,8 @@ issue-members-requires c κs = search needs
 issue-orderer-requires : tie.Need-issue-orderer-requires
 issue-orderer-requires c κs = search needs
 
-is-appointed-requires : tie.Need-is-appointed-requires
-unfolding issueMembers issueOrderer
-is-appointed-requires c κs =
-    let m = c .before .issue-members .ensures in
-    let o = c .issue-orderer .ensures in
-    (omega (arith, m), omega (arith, o))
+is-configuration-requires : tie.Need-is-configuration-requires
+is-configuration-requires c κs = search needs
 
 returns-4 : tie.Need-returns-4
 unfolding isProperIssue
@@ -51,7 +46,7 @@ returns-4 c =
       mark-between _ (s .before .before .if1 .left) (s .before .if2 .left),
       sym (s .issue-shard .ensures),
       lt-ltb _ _ (m .before .if3 .left),
-      c .is-appointed .ensures,
+      c .is-configuration .ensures,
       m .issue-members .ensures,
       c .before .issue-orderer .ensures,
     )
@@ -66,5 +61,5 @@ is-proper-issue-spec =
     returns-3
     issue-members-requires
     issue-orderer-requires
-    is-appointed-requires
+    is-configuration-requires
     returns-4)

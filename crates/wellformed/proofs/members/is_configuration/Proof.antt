@@ -1,15 +1,29 @@
 -- `wellformed::members::is_configuration` meets its contract.
-use Prim.Native.Nat.{ℕ}
-use mathlib.Core.Path.{sym, ap, _∙_}
-use mathlib.Core.Bool.{and-false}
+use Prim.Native.Nat.{ℕ, _≤_}
+use native.Mathlib.Omega.{arith}
+use mathlib.Core.Path.{_≡_, sym, ap, _∙_}
+use mathlib.Core.Bool.{true, and-true, and-false}
 use lib.Dec.{ltb, leb·suc-suc}
 use lib.Count.{ones}
-use borrow.Author.Tests.{le-ltb, not-true, not-false}
-use Rattle.model.specs.Members.{isConfiguration, isMemberSet, isHost}
-use Rattle.wellformed.proofs.Ones.{counted}
+use borrow.Author.Tests.{lt-ltb, le-ltb, le-leb, not-true, not-false}
+use Rattle.model.specs.Members.{isConfiguration, isMemberSet, isHost, hasMember}
+use Rattle.model.proofs.Members.{number-below}
 use borrow.Author.Needs.{needs}
 use Rattle.wellformed.proofs.members.is_configuration.Statement.{statement}
 use Rattle.wellformed.proofs.members.is_configuration.Tie as tie
+
+-- a set that has its orderer has a member, so only its most is counted
+counted : (m o : ℕ) → m ≤ 65535 → o ≤ 15 → hasMember m o ≡ true → ltb (ones m) 5 ≡ isConfiguration m o
+unfolding isConfiguration isMemberSet isHost
+counted m o hm ho e =
+    simp (
+      lt-ltb m 65536 (omega arith),
+      le-leb 1 (ones m) (omega (arith, number-below m o e)),
+      lt-ltb o 16 (omega arith),
+      e,
+      and-true,
+    )
+    (leb·suc-suc (ones m) 4)
 
 returns : tie.Need-returns
 unfolding isConfiguration isMemberSet
@@ -32,7 +46,7 @@ size-requires c κs = search needs
 returns-4 : tie.Need-returns-4
 returns-4 c =
     let h = c .before .before in
-    ap (λ (n : ℕ). ltb n 5) (c .size .ensures) ∙ leb·suc-suc (ones (h .before .before .before .args .members)) 4
+    ap (λ (n : ℕ). ltb n 5) (c .size .ensures)
     ∙ counted _ _ (h .before .before .if1 .left) (h .before .if2 .left) (sym (h .has .ensures) ∙ not-false _ (c .before .if3 .left))
 
 pub is-configuration-spec : {M : Type 1} → statement M

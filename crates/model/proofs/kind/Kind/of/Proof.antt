@@ -9,6 +9,7 @@ use lib.Dec.{leb}
 use borrow.Author.Tests.{le-leb, lt-leb}
 use Rattle.model.specs.declared.kind.Kind.the-variants.{Kept, Unknown}
 use Rattle.model.proofs.RoundTrip.{late-kind}
+use Rattle.model.proofs.Results.{names-kind}
 use Rattle.model.proofs.kind.Kind.of.Statement.{statement}
 use Rattle.model.proofs.kind.Kind.of.Tie as tie
 
@@ -21,51 +22,51 @@ past-seven n a b c d e f g i =
 
 returns : tie.Need-returns
 unfolding kindOf
-returns c = simp (c .match .keys1)
+returns c = names-kind _ (simp (c .match .keys1))
 
 returns-2 : tie.Need-returns-2
 unfolding kindOf
-returns-2 c = simp (c .match .keys2)
+returns-2 c = names-kind _ (simp (c .match .keys2))
 
 returns-3 : tie.Need-returns-3
 unfolding kindOf
-returns-3 c = simp (c .match .keys3)
+returns-3 c = names-kind _ (simp (c .match .keys3))
 
 returns-4 : tie.Need-returns-4
 unfolding kindOf
-returns-4 c = simp (c .match .keys4)
+returns-4 c = names-kind _ (simp (c .match .keys4))
 
 returns-5 : tie.Need-returns-5
 unfolding kindOf
-returns-5 c = simp (c .match .keys5)
+returns-5 c = names-kind _ (simp (c .match .keys5))
 
 returns-6 : tie.Need-returns-6
 unfolding kindOf
-returns-6 c = simp (c .match .keys6)
+returns-6 c = names-kind _ (simp (c .match .keys6))
 
 returns-7 : tie.Need-returns-7
 unfolding kindOf
-returns-7 c = simp (c .match .keys7)
+returns-7 c = names-kind _ (simp (c .match .keys7))
 
 returns-8 : tie.Need-returns-8
 unfolding kindOf
-returns-8 c = simp (c .match .keys8)
+returns-8 c = names-kind _ (simp (c .match .keys8))
 
 returns-9 : tie.Need-returns-9
 returns-9 c =
     let r = c .before .match .rest in
-    rw (
+    names-kind _ (rw (
       past-seven _ (r .1) (r .0 .0 .0 .0 .0 .0 .0 .1) (r .0 .0 .0 .0 .0 .0 .1) (r .0 .0 .0 .0 .0 .1) (r .0 .0 .0 .0 .1) (r .0 .0 .0 .1) (r .0 .0 .1) (r .0 .1),
       le-leb _ _ (le-of-suc-le-suc (c .if1 .taken)),
-    )
+    ))
 
 returns-10 : tie.Need-returns-10
 returns-10 c =
     let r = c .before .match .rest in
-    rw (
+    names-kind _ (rw (
       past-seven _ (r .1) (r .0 .0 .0 .0 .0 .0 .0 .1) (r .0 .0 .0 .0 .0 .0 .1) (r .0 .0 .0 .0 .0 .1) (r .0 .0 .0 .0 .1) (r .0 .0 .0 .1) (r .0 .0 .1) (r .0 .1),
       lt-leb _ _ (c .if1 .left),
-    )
+    ))
 
 pub of-spec : {M : Type 1} → statement M
 of-spec =

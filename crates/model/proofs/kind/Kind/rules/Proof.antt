@@ -1,6 +1,6 @@
 -- `model::kind::Kind::rules` meets its contract.
-use Rattle.model.specs.Kinds.{isKept, isUnknown, namesHost, usedNumbers}
-use Rattle.model.specs.Rules.{kindRejection, mostFourth, rulesOf}
+use Rattle.model.specs.Kinds.{isKept, isUnknown, namesHost, usedNumbers, kindRejection}
+use Rattle.model.specs.Rules.{mostFourth, rulesOf}
 use borrow.Author.Needs.{needs}
 use Rattle.model.proofs.kind.Kind.rules.Statement.{statement}
 use Rattle.model.proofs.kind.Kind.rules.Tie as tie

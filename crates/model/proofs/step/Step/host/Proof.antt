@@ -24,11 +24,11 @@ rules-requires c κs = search needs
 
 returns : tie.Need-returns
 unfolding actingHost
-returns c = rw (told _ (c .before .before .of .ensures) (c .before .rules .ensures) (c .if1 .taken))
+returns c = rw (told _ (c .before .before .of .ensures .1 .1) (c .before .rules .ensures) (c .if1 .taken))
 
 returns-2 : tie.Need-returns-2
 unfolding actingHost
-returns-2 c = rw (told _ (c .before .before .of .ensures) (c .before .rules .ensures) (c .if1 .left))
+returns-2 c = rw (told _ (c .before .before .of .ensures .1 .1) (c .before .rules .ensures) (c .if1 .left))
 
 pub host-spec : {M : Type 1} → statement M
 host-spec = tie.close (tie.spec of-requires rules-requires returns returns-2)

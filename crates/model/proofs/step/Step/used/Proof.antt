@@ -11,7 +11,7 @@ used-requires : tie.Need-used-requires
 used-requires c κs = search needs
 
 returns : tie.Need-returns
-returns c = simp (c .used .ensures, sym (c .before .of .ensures))
+returns c = simp (c .used .ensures, sym (c .before .of .ensures .1 .1))
 
 pub used-spec : {M : Type 1} → statement M
 used-spec = tie.close (tie.spec of-requires used-requires returns)

@@ -1,0 +1,11 @@
+-- The proof of the table: what makes rows compute, and the rows.
+pub mod Quick
+pub mod Computing
+pub mod States
+pub mod Effects
+pub mod StepOrders
+pub mod Logs
+pub mod Tallies
+pub mod Lists
+pub mod Texts
+pub mod OwnCases
