@@ -8,12 +8,12 @@ use lib.Dec.{eqb}
 use lib.ListN.{length}
 use lib.Seq.{sets}
 use borrow.Author.Tests.{le-leb, lt-leb}
-use Rattle.model.specs.declared.Writing.{Writing}
-use Rattle.model.specs.declared.Writing.the-variants.{Bytes, Rejected as NotWritten}
+use Rattle.types.specs.declared.Writing.{Writing}
+use Rattle.types.specs.declared.Writing.the-variants.{Bytes, Rejected as NotWritten}
 use Rattle.histories.specs.declared.Listing.{Listing}
 use Rattle.histories.specs.Listing.{listingOf}
 use Rattle.capi.specs.Counts.{countedAnswer, countedOut, countAfter}
-use Rattle.capi.specs.Words.{writingWord, listingWord}
+use Rattle.capi.specs.WordOutputs.{writingWord, listingWord}
 
 module _ (count out left : List ℕ) (rejection n : ℕ) where
   pub no-word : length count < 1

@@ -8,15 +8,15 @@ use lib.Dec.{eqb}
 use lib.ListN.{length}
 use lib.Seq.{sets}
 use borrow.Author.Tests.{le-leb, lt-leb}
-use Rattle.model.specs.declared.Report.{Report}
-use Rattle.model.specs.declared.Stop.{Stop}
-use Rattle.model.specs.declared.Stop.the-variants.{Ended, Spent, Damaged, Rejected}
+use Rattle.types.specs.declared.Report.{Report}
+use Rattle.types.specs.declared.Stop.{Stop}
+use Rattle.types.specs.declared.Stop.the-variants.{Ended, Spent, Damaged, Rejected}
 use Rattle.model.specs.Log.{readLog}
 use Rattle.model.specs.Replay.{replayRejection, report}
 use Rattle.model.specs.Results.{stopNumber, stopCode}
 use Rattle.replay.proofs.Whole.{Reports}
 use Rattle.transcript.proofs.LogSizes.{LogStop, log-sized}
-use Rattle.capi.specs.Words.{wordsBy, reportedWords}
+use Rattle.capi.specs.WordOutputs.{wordsBy, reportedWords}
 use Rattle.capi.specs.Replays.{reportWords, replayAnswer, stateAfter, reportAfter}
 
 -- a replay was made, however it stopped

@@ -1,4 +1,4 @@
--- The answer and output of the step reader: with too short an output, and from what `log` returns.
+-- The answer and output of the step reader: with too short an output, and from what the readers return.
 -- Assumes nothing.
 use Prim.Native.Nat.{ℕ, _≤_, _<_}
 use native.Mathlib.Omega.{arith}
@@ -7,14 +7,14 @@ use mathlib.Core.List.{List}
 use lib.ListN.{length, drop}
 use lib.Seq.{sets}
 use borrow.Author.Tests.{le-leb, lt-leb, ne-eqb}
-use Rattle.model.specs.declared.Reading.{Reading}
-use Rattle.model.specs.declared.Reading.the-variants.{Step as Read, Rejected}
-use Rattle.model.specs.declared.step.Step.{Step}
+use Rattle.types.specs.declared.Reading.{Reading}
+use Rattle.types.specs.declared.step.Step.{Step}
+use Rattle.types.specs.declared.Reading.the-variants.{Step as Read, Rejected}
 use Rattle.model.specs.Log.{readStep, readAt}
 use Rattle.model.specs.Results.{readingNumber, readingStep, readingNext, readRejection}
 use Rattle.model.proofs.Results.{reads-at}
 use Rattle.transcript.proofs.StepSizes.{step-damage}
-use Rattle.capi.specs.Steps.{stepWords, readAnswer, stepAfter}
+use Rattle.capi.specs.StepOutputs.{stepWords, readAnswer, stepAfter}
 
 module _ (log : List ℕ) (at : ℕ) (step : List ℕ) where
   pub read-short : length step < 6 → (8 ≡ readAnswer log at step) × (step ≡ stepAfter log at step)

@@ -10,15 +10,15 @@ use lib.Dec.{eqb, leb}
 use lib.ListN.{length, getD, take, drop, set, replicate, length-append, take-append-drop}
 use lib.Seq.{sets, sets-eq, take-all, take-suc, drop-cons, set-append-seam, length-take-le}
 use borrow.Author.Tests.{le-leb, lt-leb}
-use Rattle.model.specs.declared.Report.{Report}
+use Rattle.types.specs.declared.Report.{Report}
 use Rattle.model.specs.Replay.{replayRejection, replayed, report, afterReplay}
 use Rattle.model.specs.Results.{stopNumber}
-use Rattle.replay.specs.declared.tally.Tally.{Tally}
-use Rattle.replay.specs.Tally.{tallyOf, tallyAfter}
-use Rattle.replay.proofs.Tallies.{host-counts-long}
+use Rattle.tallies.specs.declared.tally.Tally.{Tally}
+use Rattle.tallies.specs.Tally.{tallyOf, tallyAfter}
+use Rattle.tallies.proofs.TallyCounts.{host-counts-long}
 use Rattle.replay.proofs.Whole.{reports}
-use Rattle.capi.specs.Words.{reportedWords}
-use Rattle.capi.specs.Tallies.{tallyWords, tallyIn, tallyAnswer, tallyStateAfter, tallyReportAfter, tallyWordsAfter}
+use Rattle.capi.specs.WordOutputs.{reportedWords}
+use Rattle.capi.specs.TallyOutputs.{tallyWords, tallyIn, tallyAnswer, tallyStateAfter, tallyReportAfter, tallyWordsAfter}
 use Rattle.capi.proofs.Reports.{short, told}
 
 -- ---- words at the start of an output

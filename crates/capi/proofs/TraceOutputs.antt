@@ -11,7 +11,7 @@ use Rattle.histories.specs.declared.trace.HostTrace.{HostTrace}
 use Rattle.histories.specs.Listing.{afterListingOf}
 use Rattle.histories.specs.Traces.{traceOf, traceRejection, padded, listed, traced}
 use Rattle.histories.proofs.TraceLaws.{trace-few}
-use Rattle.capi.specs.Traces.{boxesRejection, traceAnswer, boxesAfter, boxCountAfter}
+use Rattle.capi.specs.TraceOutputs.{boxesRejection, traceAnswer, boxesAfter, boxCountAfter}
 use Rattle.capi.proofs.Counts.{no-word, counted}
 
 -- what the call leaves: its answer, its boxes and their count

@@ -2,10 +2,10 @@
 pub mod State
 pub mod Replays
 pub mod Counts
-pub mod Words
-pub mod Steps
-pub mod Tallies
-pub mod Lists
+pub mod WordOutputs
+pub mod StepOutputs
+pub mod TallyOutputs
+pub mod ListOutputs
 pub mod Transcripts
 pub mod Spreadsheets
-pub mod Traces
+pub mod TraceOutputs

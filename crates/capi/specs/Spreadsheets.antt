@@ -2,7 +2,7 @@
 use Prim.Native.Nat.{ℕ}
 use mathlib.Core.List.{List}
 use lib.ListN.{length}
-use Rattle.records.specs.Csv.{csv, csvRejection, afterCsv}
+use Rattle.csv_rows.specs.Csv.{csv, csvRejection, afterCsv}
 use Rattle.capi.specs.Counts.{countedAnswer, countedOut, countAfter}
 
 -- the answer, and what is left of the two outputs

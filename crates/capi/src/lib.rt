@@ -5,7 +5,7 @@ mod replays;
 mod spreadsheets;
 mod state;
 mod steps;
-mod tallies;
+mod tally_words;
 mod traces;
 mod transcripts;
 mod usual;

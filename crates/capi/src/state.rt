@@ -1,6 +1,6 @@
 // A state's length, its setup, and one step on it.
-use model::layout::SHARD_WORDS;
-use model::step::Step;
+use types::layout::SHARD_WORDS;
+use types::step::Step;
 ghost use mathlib.Core.Path.{_≡_};
 ghost use mathlib.Core.List.{[], _∷_};
 ghost use Rattle.model.specs.Setup.{setupRejection, afterSetup};

@@ -3,12 +3,12 @@ use crate::usual::put_long_add;
 use crate::usual::put_short;
 use crate::words::put_step;
 use crate::words::put_writing;
-use model::Reading;
-use model::step::Step;
+use types::Reading;
+use types::step::Step;
 ghost use mathlib.Core.Path.{_≡_};
 ghost use mathlib.Core.List.{[], _∷_};
 ghost use Rattle.model.specs.Log.{stepOf};
-ghost use Rattle.capi.specs.Steps.{readAnswer, stepAfter, writeAnswer, outAfter, byteCountAfter};
+ghost use Rattle.capi.specs.StepOutputs.{readAnswer, stepAfter, writeAnswer, outAfter, byteCountAfter};
 
 // Reads the step at a position of a log: 0 and its words, all 0 at the end, or the rejection and nothing written.
 #[no_mangle]
@@ -23,15 +23,15 @@ pub extern "C" fn penkwadar_read_step(log: &[u8], at: usize, step: &mut [u64]) -
         put_step(step, 0, 0, 0, 0, 0, 0);
         return 0;
     }
-    if log::short::is_short(log, at) {
+    if quick_reader::short::is_short(log, at) {
         put_short(step, log, at);
         return 0;
     }
-    if log::long::is_long_add(log, at) {
+    if quick_reader::long::is_long_add(log, at) {
         put_long_add(step, log, at);
         return 0;
     }
-    match log::reader::first_step(&log[at..]) {
+    match log_reader::first_step(&log[at..]) {
         Reading::Step { step: s, next } => {
             put_step(step, s.kind, s.a, s.b, s.c, s.d, (at + next) as u64);
             0
@@ -63,6 +63,6 @@ pub extern "C" fn penkwadar_write_step(
     if count.len() < 1 {
         return 8;
     }
-    let writing = log::writer::write_step(out, at, Step { kind, a, b, c, d });
+    let writing = log_writer::write_step(out, at, Step { kind, a, b, c, d });
     put_writing(count, writing)
 }

@@ -2,7 +2,7 @@
 use histories::copy::copy;
 use histories::trace::MOST_HOSTS;
 ghost use mathlib.Core.Path.{_≡_};
-ghost use Rattle.capi.specs.Traces.{traceAnswer, boxesAfter, boxCountAfter};
+ghost use Rattle.capi.specs.TraceOutputs.{traceAnswer, boxesAfter, boxCountAfter};
 
 // Copies the boxes of a seat's trace to an output, nearest first: 0 and their count, or the rejection and nothing written.
 #[no_mangle]

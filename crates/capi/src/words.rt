@@ -1,8 +1,8 @@
 // Words at the start of an output.
 use histories::Listing;
-use model::Report;
-use model::Stop;
-use model::Writing;
+use types::Report;
+use types::Stop;
+use types::Writing;
 ghost use mathlib.Core.Path.{_≡_};
 ghost use mathlib.Core.List.{[], _∷_};
 ghost use Prim.Native.Nat.{_≤_};
@@ -10,7 +10,7 @@ ghost use lib.ListN.{length};
 ghost use lib.Seq.{sets};
 ghost use Rattle.model.specs.Results.{stopNumber, writingNumber};
 ghost use Rattle.histories.specs.Listing.{listingNumber};
-ghost use Rattle.capi.specs.Words.{reportedWords, writingWord, listingWord};
+ghost use Rattle.capi.specs.WordOutputs.{reportedWords, writingWord, listingWord};
 
 // The four words of a report.
 pub fn put_report(out: &mut [u64], stop: u64, tried: u64, rejected: u64, bytes: u64)

@@ -3,15 +3,15 @@ use Prim.Native.Nat.{ℕ}
 use lib.Count.{ones}
 use Rattle.model.specs.Tests.{allBelow, anyBelow, allOf, concatBelow, same, contains}
 use Rattle.model.specs.Checks.{firstOf}
-use Rattle.model.specs.Kinds.{kindOf, isKept, isUnknown, namesHost, usedNumbers}
-use Rattle.model.specs.Entries.{isTake, issue, isIssue, issueShard, issueIndex, issueOrderer, issueMembers, isProperIssue, isEntry}
-use Rattle.model.specs.Entries.{isIssueFor, names, rivals}
-use Rattle.model.specs.Members.{isHost, hasMember, replicaNumber, isMemberSet, isConfiguration}
+use Rattle.types.specs.Kinds.{kindOf, isKept, isUnknown, usedNumbers}
+use Rattle.model.specs.Entries.{isTake, issue, isIssue, issueShard, issueIndex, issueOrderer, issueMembers, isProperIssue, isEntry, isIssueFor, names, rivals}
+use Rattle.types.specs.Members.{isHost, hasMember, replicaNumber, isMemberSet, isConfiguration}
 use Rattle.model.specs.Replicas.{readReplica, replicaWords, unused, fresh, isActive, isPending, isImmutable}
 use Rattle.model.specs.Replicas.{added, adopted, learned, wedged, pending, inherited, caughtUp}
 use Rattle.model.specs.Layout.{shardsOf, headPlace, place, headWord, sequencer, installed, members, orderer, isInstalled}
 use Rattle.model.specs.Layout.{part, replicaAt, putReplica, putHead}
-use Rattle.model.specs.Configuration.{configuration, replicaPlace, replicaOf, replicaIn}
+use Rattle.model.specs.Configuration.{configuration, replicaOf, replicaIn}
+use Rattle.types.specs.ReplicaPlace.{replicaPlace}
 use Rattle.model.specs.Setup.{planSequencer, planMembers, planOrderer, initialHead, initialReplica, initialShard, initialState}
 use Rattle.model.specs.Origins.{namesMember, namesSource, isOriginOf}
 use Rattle.model.specs.WellFormed.{isReplica, isUnused, isPart, isSequencer, allDiffer, isHeadOf, isConfigurationOf, isShard, wellFormed}
@@ -19,17 +19,17 @@ use Rattle.model.specs.Add.{ordererPlace, ordererReplica, mayIssue, noRival, ad
 use Rattle.model.specs.Adopt.{adoptChecks, adoptEffect}
 use Rattle.model.specs.Learn.{alike, allAlike, learnChecks, learnEffect}
 use Rattle.model.specs.Wedge.{wedgeChecks, wedgeEffect}
-use Rattle.model.specs.Install.{issuer, issuedAt, isStableIssue, noneBefore, isWedged, isNewestWedged, installChecks, putPending, installNext}
-use Rattle.model.specs.Install.{installEffect}
+use Rattle.model.specs.Install.{issuer, issuedAt, isStableIssue, noneBefore, isWedged, isNewestWedged, installChecks, putPending, installNext, installEffect}
 use Rattle.model.specs.Inherit.{source, isSource, inheritChecks, inheritEffect}
 use Rattle.model.specs.CatchUp.{isPeer, catchUpChecks, catchUpEffect}
-use Rattle.model.specs.Steps.{shardOf, configurationOf, actingHost, areNumbers, inRange, kindChecks, kindEffect, effect}
-use Rattle.model.specs.Numbers.{withLower, readGroups, readNumber, withFirst, afterFirst, readNumbers, groupsOf, numberBytes, numbersBytes}
+use Rattle.types.specs.StepNames.{shardOf, configurationOf}
+use Rattle.model.specs.Steps.{areNumbers, inRange, kindChecks, kindEffect, effect}
+use Rattle.model.specs.Numbers.{withLower, readGroups, readNumber, withFirst, afterFirst, readNumbers}
 use Rattle.model.specs.Log.{stepOf, afterNumbers, afterKind, readStep, withStep, stopped, isEmpty, logAfter, readLog}
 use Rattle.model.specs.Transcript.{programPlan, programStart}
 use Rattle.model.specs.Marked.{nextIssue}
 use Rattle.model.proofs.Answers.{quickRejection, quickAfter, quickAnswers}
-use Rattle.cases.specs.Rows.{changed}
+use Rattle.cases.specs.CaseRows.{changed}
 use Rattle.cases.specs.Scripts.{rivalIssue, laterIssue, otherIssue, unmarked, fourHosts, lastIssue, upTo}
 use Rattle.cases.specs.Scripts.{oneTake, confirmed, replaced, goneOn, twoSources, caughtUpAfter, lastIndex}
 use Rattle.cases.specs.States.{tooShort, illFormed, borrowed, twoIssues, full, unlike, late, beganEmpty}

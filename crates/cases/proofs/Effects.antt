@@ -2,11 +2,11 @@
 use mathlib.Core.Path.{_≡_, refl}
 use mathlib.Core.List.{List}
 use Prim.Native.Nat.{ℕ}
-use Rattle.model.specs.declared.step.Step.{Step}
+use Rattle.types.specs.declared.step.Step.{Step}
 use Rattle.model.specs.Replay.{afterAll}
 use Rattle.model.specs.Transcript.{programStart}
 use Rattle.model.proofs.ProgramStart.{start-formed}
-use Rattle.cases.specs.Rows.{changed}
+use Rattle.cases.specs.CaseRows.{changed}
 use Rattle.cases.specs.Scripts.{replaced}
 use Rattle.cases.specs.States.{afterReplaced}
 use Rattle.cases.specs.Effects.{replacedWords, Effects}

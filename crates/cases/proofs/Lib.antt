@@ -5,7 +5,7 @@ pub mod States
 pub mod Effects
 pub mod StepOrders
 pub mod Logs
-pub mod Tallies
-pub mod Lists
+pub mod TallyCases
+pub mod ListCases
 pub mod Texts
 pub mod OwnCases

@@ -14,7 +14,7 @@ use Rattle.model.specs.Replay.{replayRejection, replayed, rejectedIn}
 use Rattle.model.specs.Transcript.{programStart}
 use Rattle.model.proofs.StaysWellFormed.{replay-accepted}
 use Rattle.model.proofs.ProgramStart.{start-formed}
-use Rattle.cases.specs.Rows.{replayWords}
+use Rattle.cases.specs.CaseRows.{replayWords}
 use Rattle.cases.specs.States.{tooShort, illFormed}
 use Rattle.cases.specs.Logs.{ReaderOrder, WriterOrder, ReplayOrder}
 use Rattle.cases.proofs.Quick.{quickRejectedIn, quick-rejected-in}

@@ -4,8 +4,8 @@ use Rattle.cases.proofs.States.{form}
 use Rattle.cases.proofs.Effects.{effects}
 use Rattle.cases.proofs.StepOrders.{setup-order, step-order, kind-orders, step-bounds, plan-bounds}
 use Rattle.cases.proofs.Logs.{reader-order, writer-order, replay-order}
-use Rattle.cases.proofs.Tallies.{named, tally-left, tally-order}
-use Rattle.cases.proofs.Lists.{stable-histories, shown-prefixes, traced-hosts}
+use Rattle.cases.proofs.TallyCases.{named, tally-left, tally-order}
+use Rattle.cases.proofs.ListCases.{stable-histories, shown-prefixes, traced-hosts}
 use Rattle.cases.proofs.Texts.{program-text, spreadsheet}
 
 pub own-cases : OwnCases

@@ -4,20 +4,22 @@ use mathlib.Core.Path.{_≡_, refl, sym, ap, ap₂, _∙_}
 use mathlib.Core.Bool.{cond, _||_}
 use mathlib.Core.List.{List, [], _∷_, _++_}
 use lib.Dec.{eqb}
-use Rattle.model.specs.declared.step.Step.{Step}
-use Rattle.model.specs.Members.{isHost}
+use Rattle.types.specs.declared.step.Step.{Step}
+use Rattle.types.specs.Members.{isHost}
 use Rattle.model.specs.Layout.{orderer}
-use Rattle.model.specs.Steps.{shardOf, configurationOf, actingHost, rejection, after}
+use Rattle.types.specs.StepNames.{shardOf, configurationOf, actingHost}
+use Rattle.model.specs.Steps.{rejection}
 use Rattle.model.specs.Replay.{afterAll, rejectedIn}
 use Rattle.model.specs.Transcript.{decimal, spaced, newline, stepLines}
 use Rattle.model.specs.Marked.{answersFrom}
 use Rattle.model.proofs.WellFormed.{WellFormed}
 use Rattle.model.proofs.WellFormedSteps.{after-formed}
 use Rattle.model.proofs.Answers.{quickRejection, quickAfter, quickAnswers, quick-rejection, quick-after, quick-answers}
-use Rattle.replay.specs.declared.tally.Tally.{Tally}
-use Rattle.replay.specs.Tally.{noHost, namedHost, countOf, tallyOf}
-use Rattle.replay.specs.Counts.{nothingCounted, countedIn}
-use Rattle.replay.proofs.Tallies.{tallyFrom, tally-from-nothing}
+use Rattle.tallies.specs.declared.tally.Tally.{Tally}
+use Rattle.tallies.specs.Tally.{tallyOf}
+use Rattle.rejection_hosts.specs.RejectionHosts.{noHost, namedHost, countOf}
+use Rattle.tallies.specs.TallyCounts.{nothingCounted, countedIn}
+use Rattle.tallies.proofs.TallyCounts.{tallyFrom, tally-from-nothing}
 
 -- ---- what is left, and how many are rejected
 

@@ -8,7 +8,7 @@ use lib.Dec.{ltb}
 use lib.ListN.{length}
 use lib.Seq.{length-sets}
 use borrow.Author.Tests.{ltb-true}
-use Rattle.model.specs.Members.{size}
+use Rattle.types.specs.Members.{size}
 use Rattle.model.specs.Replicas.{Replica, isPending}
 use Rattle.model.specs.Layout.{shardsOf, place, headWord, members, part, replicaAt, putReplica}
 use Rattle.model.specs.Origins.{isOriginOf}
@@ -21,7 +21,7 @@ use Rattle.model.proofs.WellFormed.{WellFormed, well-formed}
 use Rattle.model.proofs.WellFormedPut.{put-keeps}
 use Rattle.model.proofs.StaysWellFormed.{all-formed}
 use Rattle.model.proofs.ProgramStart.{start-shards, start-formed}
-use Rattle.cases.specs.Rows.{changed}
+use Rattle.cases.specs.CaseRows.{changed}
 use Rattle.cases.specs.Scripts.{rivalIssue, replaced, upTo}
 use Rattle.cases.specs.States.{illFormed, borrowed, twoIssues, full, afterReplaced, late}
 use Rattle.cases.specs.Form.{IllFormedWith, Form}

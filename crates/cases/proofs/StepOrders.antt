@@ -3,9 +3,9 @@ use Prim.Native.Nat.{ℕ}
 use mathlib.Core.Path.{_≡_, refl}
 use mathlib.Core.Bool.{cond, not}
 use mathlib.Core.List.{List}
-use Rattle.model.specs.declared.step.Step.{Step}
+use Rattle.types.specs.declared.step.Step.{Step}
 use Rattle.model.specs.Checks.{firstOf}
-use Rattle.model.specs.Kinds.{kindOf, isKept, isUnknown}
+use Rattle.types.specs.Kinds.{kindOf, isKept, isUnknown}
 use Rattle.model.specs.Layout.{shardsOf, isStateLength}
 use Rattle.model.specs.WellFormed.{isSequencer, allDiffer}
 use Rattle.model.specs.Setup.{isPlannedShard, isPlan, setupRejection}
@@ -14,7 +14,7 @@ use Rattle.model.specs.Transcript.{programStart}
 use Rattle.model.specs.Marked.{answersFrom}
 use Rattle.model.proofs.ProgramStart.{start-shards, start-formed}
 use Rattle.model.proofs.Answers.{quickAnswers}
-use Rattle.cases.specs.Rows.{tried, changed}
+use Rattle.cases.specs.CaseRows.{tried, changed}
 use Rattle.cases.specs.States.{tooShort, illFormed, afterReplaced}
 use Rattle.cases.specs.Effects.{replacedWords}
 use Rattle.cases.specs.StepOrders.{SetupOrder, StepOrder, KindOrders}

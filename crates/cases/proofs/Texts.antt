@@ -3,22 +3,21 @@ use Prim.Native.Nat.{ℕ}
 use mathlib.Core.Path.{_≡_, refl, ap, _∙_}
 use mathlib.Core.List.{List, [], _∷_, _++_}
 use lib.ListN.{length}
-use Rattle.model.specs.declared.Report.{Report}
+use Rattle.types.specs.declared.Report.{Report}
 use Rattle.model.specs.Checks.{firstOf}
 use Rattle.model.specs.Layout.{shardsOf, isStateLength}
 use Rattle.model.specs.Replicas.{stablePrefix}
 use Rattle.model.specs.StableHistory.{longer, longestOf, stableHistory}
 use Rattle.model.specs.Log.{readLog}
 use Rattle.model.specs.Replay.{replayed, report, afterReplay}
-use Rattle.model.specs.Transcript.{digits, decimal, spaced, spacedAll, shardLine, stopText, lastLine, programPlan, programStart, programBudget}
-use Rattle.model.specs.Transcript.{lines, tooLong, transcript}
+use Rattle.model.specs.Transcript.{digits, decimal, spaced, spacedAll, shardLine, stopText, lastLine, programStart, programBudget, lines, tooLong, transcript}
 use Rattle.model.proofs.WellFormed.{is-well-formed}
 use Rattle.model.proofs.StaysWellFormed.{replay-accepted}
 use Rattle.model.proofs.ProgramStart.{start-shards, start-formed}
 use Rattle.histories.specs.Listing.{hasRoom}
-use Rattle.records.specs.Format.{rowText}
-use Rattle.records.specs.Rows.{historyRows, shardRows, rows}
-use Rattle.records.specs.Csv.{kindName, rowFields, rowsText, csv, csvRejection}
+use Rattle.csv_rows.specs.Format.{rowText}
+use Rattle.csv_rows.specs.Rows.{historyRows, shardRows, rows}
+use Rattle.csv_rows.specs.Csv.{kindName, rowFields, rowsText, csv, csvRejection}
 use Rattle.cases.specs.States.{tooShort, illFormed}
 use Rattle.cases.specs.Texts.{sampleLog, sampleText, ProgramText, headerText, threeRows, Spreadsheet}
 use Rattle.cases.proofs.Quick.{quickAfterAll, quickRejectedIn, quickLines, quick-after-all, quick-rejected-in, quick-lines}

@@ -8,7 +8,7 @@ use Rattle.model.specs.Log.{stepOf}
 use Rattle.model.specs.Setup.{setupRejection}
 use Rattle.model.specs.Transcript.{programStart}
 use Rattle.model.specs.Marked.{add, adopt, learn, wedge, install, inherit, catchUp}
-use Rattle.cases.specs.Rows.{tried}
+use Rattle.cases.specs.CaseRows.{tried}
 
 -- member sets of four hosts and of five
 abbrev pub four : ℕ

@@ -2,11 +2,11 @@
 use Prim.Native.Nat.{ℕ}
 use mathlib.Core.Path.{_≡_}
 use mathlib.Core.List.{List, [], _∷_, _++_}
-use Rattle.model.specs.declared.step.Step.{Step}
+use Rattle.types.specs.declared.step.Step.{Step}
 use Rattle.model.specs.Replay.{afterAll}
 use Rattle.model.specs.Transcript.{programStart}
 use Rattle.model.specs.Marked.{add, adopt, learn, wedge, nextIssue}
-use Rattle.cases.specs.Rows.{changed, Leaves, LeavesOf}
+use Rattle.cases.specs.CaseRows.{changed, Leaves, LeavesOf}
 use Rattle.cases.specs.Scripts.{oneTake, goneOn, twoSources, caughtUpAfter, lastIndex, fourHosts}
 use Rattle.cases.specs.States.{afterReplaced, late}
 

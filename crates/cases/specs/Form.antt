@@ -5,7 +5,7 @@ use mathlib.Core.Path.{_≡_}
 use mathlib.Core.Bool.{true, false}
 use mathlib.Core.List.{List, [], _∷_}
 use Rattle.model.specs.WellFormed.{wellFormed}
-use Rattle.cases.specs.Rows.{changed}
+use Rattle.cases.specs.CaseRows.{changed}
 use Rattle.cases.specs.States.{late}
 
 -- `late` with these words from a place on is not well-formed

@@ -1,5 +1,5 @@
 -- The table of our own cases: known answers of the definitions of all crates.
-pub mod Rows
+pub mod CaseRows
 pub mod Scripts
 pub mod States
 pub mod Effects
@@ -7,7 +7,7 @@ pub mod StepOrders
 pub mod Bounds
 pub mod Logs
 pub mod Form
-pub mod Tallies
-pub mod Lists
+pub mod TallyCases
+pub mod ListCases
 pub mod Texts
 pub mod OwnCases

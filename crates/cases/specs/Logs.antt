@@ -1,5 +1,5 @@
 -- The log: which rejection of a reader, a writer or a replay is told where two apply, and what each answers beside it.
-use Prim.Native.Nat.{ℕ, _^_}
+use Prim.Native.Nat.{_^_}
 use mathlib.Core.Path.{_≡_}
 use mathlib.Core.List.{[], _∷_}
 use lib.ListN.{replicate}
@@ -7,7 +7,7 @@ use Rattle.model.specs.Log.{stepOf}
 use Rattle.model.specs.Results.{readRejection, nextRead}
 use Rattle.model.specs.Transcript.{programStart}
 use Rattle.model.specs.Marked.{add, learn, catchUp}
-use Rattle.cases.specs.Rows.{Reads, Writes, replayWords}
+use Rattle.cases.specs.CaseRows.{Reads, Writes, replayWords}
 use Rattle.cases.specs.States.{tooShort, illFormed}
 
 -- "Reader: 5 and 6 byte by byte, and 3 or 4 once the kind is read."

@@ -5,8 +5,8 @@ use Rattle.cases.specs.StepOrders.{SetupOrder, StepOrder, KindOrders}
 use Rattle.cases.specs.Bounds.{StepBounds, PlanBounds}
 use Rattle.cases.specs.Logs.{ReaderOrder, WriterOrder, ReplayOrder}
 use Rattle.cases.specs.Form.{Form}
-use Rattle.cases.specs.Tallies.{Named, TallyLeft, TallyOrder}
-use Rattle.cases.specs.Lists.{StableHistories, ShownPrefixes, TracedHosts}
+use Rattle.cases.specs.TallyCases.{Named, TallyLeft, TallyOrder}
+use Rattle.cases.specs.ListCases.{StableHistories, ShownPrefixes, TracedHosts}
 use Rattle.cases.specs.Texts.{ProgramText, Spreadsheet}
 
 pub record OwnCases : Type 0 where

@@ -1,7 +1,7 @@
 -- Issues and lists of steps that the rows are about.
 use Prim.Native.Nat.{ℕ, zero, suc, _-_, _+_, _^_}
 use mathlib.Core.List.{List, [], _∷_, _++_}
-use Rattle.model.specs.declared.step.Step.{Step}
+use Rattle.types.specs.declared.step.Step.{Step}
 use Rattle.model.specs.Entries.{issue}
 use Rattle.model.specs.Marked.{add, adopt, learn, wedge, install, inherit, catchUp, nextIssue}
 

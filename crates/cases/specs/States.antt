@@ -6,7 +6,7 @@ use mathlib.Core.List.{List, [], _∷_, _++_}
 use Rattle.model.specs.Replay.{afterAll}
 use Rattle.model.specs.Transcript.{programStart}
 use Rattle.model.specs.Marked.{nextIssue}
-use Rattle.cases.specs.Rows.{changed}
+use Rattle.cases.specs.CaseRows.{changed}
 use Rattle.cases.specs.Scripts.{rivalIssue, lastIssue, fourHosts, replaced, upTo}
 
 -- no state of this length

@@ -9,7 +9,7 @@ use Rattle.model.specs.Setup.{setupRejection}
 use Rattle.model.specs.Steps.{rejection}
 use Rattle.model.specs.Log.{stepOf}
 use Rattle.model.specs.Marked.{add, adopt, learn, wedge, install, inherit, catchUp, answersFrom, nextIssue}
-use Rattle.cases.specs.Rows.{tried}
+use Rattle.cases.specs.CaseRows.{tried}
 use Rattle.cases.specs.Scripts.{rivalIssue, laterIssue, otherIssue, unmarked, confirmed}
 use Rattle.cases.specs.States.{tooShort, illFormed, borrowed, twoIssues, full, afterReplaced, late}
 

@@ -5,7 +5,7 @@ use mathlib.Core.List.{List, [], _∷_, _++_}
 use lib.ListN.{replicate}
 use Rattle.model.specs.Replay.{afterAll}
 use Rattle.model.specs.Transcript.{programPlan, programStart, programBudget, longestLog, transcript}
-use Rattle.records.specs.Csv.{csv, csvRejection}
+use Rattle.csv_rows.specs.Csv.{csv, csvRejection}
 use Rattle.cases.specs.Scripts.{goneOn}
 use Rattle.cases.specs.States.{tooShort, illFormed, afterReplaced}
 

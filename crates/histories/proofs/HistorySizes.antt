@@ -8,7 +8,7 @@ use lib.Dec.{leb, ltb}
 use lib.ListN.{length, getD, length-take}
 use borrow.Author.Tests.{leb-true, eqb-true}
 use Rattle.model.specs.Tests.{allOf}
-use Rattle.model.specs.Members.{size, isConfiguration}
+use Rattle.types.specs.Members.{size, isConfiguration}
 use Rattle.model.specs.Entries.{isTake, isIssue, issueIndex, issueShard, issueOrderer, issueMembers, isProperIssue, isEntry}
 use Rattle.model.specs.Replicas.{Replica, readReplica, stablePrefix, unused}
 use Rattle.model.specs.Layout.{place, members, part, replicaAt}

@@ -4,10 +4,10 @@ pub mod Longest
 pub mod Picking
 pub mod Copying
 pub mod Listings
-pub mod Histories
+pub mod StableHistories
 pub mod HistorySizes
-pub mod Seats
-pub mod Prefixes
+pub mod NamedReplicas
+pub mod StablePrefixes
 pub mod Shown
 pub mod Traces
 pub mod TraceAnswers

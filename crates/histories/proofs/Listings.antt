@@ -12,7 +12,7 @@ use Rattle.model.specs.Results.{countBeside}
 use Rattle.histories.specs.declared.Listing.{Listing}
 use Rattle.histories.specs.declared.Listing.the-variants.{Entries, Rejected}
 use Rattle.histories.specs.Listing.{hasRoom, listingOf, afterListingOf, listingNumber, listingCount}
-use Rattle.histories.specs.Entries.{entriesAt, HasEntries, copyingRejection, copiedCount, copying, afterCopying}
+use Rattle.histories.specs.StableEntries.{entriesAt, HasEntries, copyingRejection, copiedCount, copying, afterCopying}
 use Rattle.histories.proofs.Stable.{entries-part, entries-length}
 
 -- a rejection is told, and leaves the output

@@ -10,7 +10,7 @@ use borrow.Author.Tests.{lt-ltb}
 use Rattle.model.specs.Replicas.{stablePrefix}
 use Rattle.model.specs.Layout.{place, replicaAt}
 use Rattle.model.specs.StableHistory.{longer, longestOf, stableHistory}
-use Rattle.histories.specs.Entries.{entriesAt, HasEntries}
+use Rattle.histories.specs.StableEntries.{entriesAt, HasEntries}
 use Rattle.histories.specs.History.{longestPlace, OfShard}
 use Rattle.histories.proofs.Stable.{Settled, shard-settled}
 

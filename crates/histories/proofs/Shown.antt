@@ -18,15 +18,15 @@ use Rattle.model.proofs.Checks.{passed}
 use Rattle.model.proofs.OneList.{one-list}
 use Rattle.model.specs.Results.{countBeside}
 use Rattle.histories.specs.Listing.{hasRoom, afterListingOf}
-use Rattle.histories.specs.Seats.{seatChecks}
+use Rattle.histories.specs.NamedReplicas.{replicaChecks}
 use Rattle.histories.specs.Prefix.{shown, prefixRejection, prefixCount, afterPrefix}
 use Rattle.histories.specs.Shown.{returned, ShownShare, ShownClaim}
-use Rattle.histories.proofs.Seats.{named}
+use Rattle.histories.proofs.NamedReplicas.{named}
 
 seated : (w : List ℕ) (z i h : ℕ) (out : List ℕ) → prefixRejection w z i h out ≡ 0 → Seated w z (i - 1) h
-unfolding prefixRejection seatChecks isInstalled shards hasRoom
+unfolding prefixRejection replicaChecks isInstalled shards hasRoom
 seated w z i h out e =
-    let p = passed (seatChecks w z i h ++ (hasRoom (shown w z i h) out ∷ [])) refl e in
+    let p = passed (replicaChecks w z i h ++ (hasRoom (shown w z i h) out ∷ [])) refl e in
     record {
       shard = named (shardsOf (length w)) z i h (p .1 .0) .shard;
       configured = ltb-true (i - 1) (installed w z) (p .1 .1 .1 .0);

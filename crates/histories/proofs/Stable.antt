@@ -8,19 +8,20 @@ use mathlib.Core.List.{List}
 use lib.Dec.{ltb}
 use lib.ListN.{length, getD, take, drop, length-take, length-drop}
 use lib.Seq.{take-take}
-use Rattle.model.specs.Members.{size, hasMember}
+use Rattle.types.specs.Members.{size, hasMember}
 use Rattle.model.specs.Replicas.{mostEntries, readReplica, replicaWords, stablePrefix}
-use Rattle.model.specs.Layout.{partWords, shardsOf, place, members, part, replicaAt}
-use Rattle.model.specs.Configuration.{configuration, replicaPlace}
+use Rattle.types.specs.ReplicaPlace.{partWords, replicaPlace}
+use Rattle.model.specs.Layout.{shardsOf, place, members, part, replicaAt}
+use Rattle.model.specs.Configuration.{configuration}
 use Rattle.model.specs.WellFormed.{isPart}
 use Rattle.model.proofs.Places.{replica-place, place-fits}
 use Rattle.model.proofs.SeatedReplica.{number-small}
 use Rattle.model.proofs.WellFormedParts.{part-is-words, part-proper, part-vacant}
 use Rattle.model.proofs.Fields.{stable-word}
-use Rattle.lookup.proofs.Fields.{formed}
-use Rattle.lookup.proofs.Words.{length-word, length-few, history-words}
+use Rattle.lookup.proofs.ReadyFields.{formed}
+use Rattle.lookup.proofs.StateWords.{length-word, length-few, history-words}
 use Rattle.lookup.specs.Ready.{Formed, Ready}
-use Rattle.histories.specs.Entries.{entriesAt, HasEntries}
+use Rattle.histories.specs.StableEntries.{entriesAt, HasEntries}
 use Rattle.histories.specs.History.{OfShard}
 
 -- a replica's place: its words are in the state, and its stable prefix is the first of its entries

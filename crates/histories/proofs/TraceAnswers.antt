@@ -1,4 +1,4 @@
--- The tests of a trace in turn, by the seat r that was found: what the function answers at each of its exits.
+-- The tests of a trace in turn, by the look-up r: what the function answers at each of its exits.
 use Prim.Native.Nat.{ℕ, _+_, _-_, _≤_}
 use mathlib.Core.Path.{_≡_, sym, ap, _∙_}
 use mathlib.Core.Bool.{false}
@@ -8,31 +8,32 @@ use lib.ListN.{length, getD}
 use borrow.Author.Tests.{eq-eqb, ne-eqb}
 use Rattle.model.specs.Replicas.{isPending}
 use Rattle.model.specs.Layout.{replicaAt}
-use Rattle.model.specs.Configuration.{configuration, replicaPlace, replicaOf, replicaIn}
+use Rattle.model.specs.Configuration.{configuration, replicaOf, replicaIn}
+use Rattle.types.specs.ReplicaPlace.{replicaPlace}
 use Rattle.model.proofs.Fields.{pending-word}
-use Rattle.lookup.specs.declared.Seat.{Seat}
-use Rattle.lookup.proofs.Seats.{member-placed}
+use Rattle.lookup.specs.declared.Found.{Found}
+use Rattle.lookup.proofs.FoundReplicas.{member-placed}
 use Rattle.histories.specs.declared.trace.HostTrace.{HostTrace}
-use Rattle.histories.specs.Seats.{seatNamed}
+use Rattle.histories.specs.NamedReplicas.{foundNamed}
 use Rattle.histories.specs.Traces.{sourcesOf, traceOf, traceRejection, padded, listed, traced, Started}
-use Rattle.histories.proofs.Seats.{Found, found}
+use Rattle.histories.proofs.NamedReplicas.{IsNamed, is-named}
 use Rattle.histories.proofs.Traces.{started, sources-length}
 
-module _ (w : List ℕ) (z i h : ℕ) {r : Seat} (e : r ≡ seatNamed w z i h) where
+module _ (w : List ℕ) (z i h : ℕ) {r : Found} (e : r ≡ foundNamed w z i h) where
   answer-is : traceRejection w z i h ≡ r .answer
-  unfolding traceRejection seatNamed
-  answer-is = sym (ap (λ (s : Seat). s .answer) e)
+  unfolding traceRejection foundNamed
+  answer-is = sym (ap (λ (s : Found). s .answer) e)
 
   pub rejected : (r .answer ≡ 0 → ⊥) → {t : HostTrace} → t ≡ listed (r .answer) [] → t ≡ traced w z i h
   unfolding traced
   rejected n q = rw (answer-is, ne-eqb (r .answer) 0 n) q
 
   module _ (a : r .answer ≡ 0) where
-    at : Found w z i h
-    at = found w z i h (sym (ap (λ (s : Seat). s .answer) e) ∙ a)
+    at : IsNamed w z i h
+    at = is-named w z i h (sym (ap (λ (s : Found). s .answer) e) ∙ a)
 
     place-is : r .place ≡ replicaPlace (configuration w z (i - 1)) h
-    place-is = ap (λ (s : Seat). s .place) e ∙ at .place-is
+    place-is = ap (λ (s : Found). s .place) e ∙ at .place-is
 
     pub fits : r .place + 64 ≤ length w
     fits = rw place-is (member-placed (at .ready) h (at .member) .fits)

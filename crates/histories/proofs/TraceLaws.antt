@@ -17,16 +17,16 @@ use Rattle.model.specs.OneList.{shards, Seated}
 use Rattle.model.specs.Configuration.{replicaIn}
 use Rattle.model.specs.Sources.{SourcesClaim}
 use Rattle.model.proofs.Sources.{sources}
-use Rattle.histories.specs.Seats.{seatNamed}
+use Rattle.histories.specs.NamedReplicas.{foundNamed}
 use Rattle.histories.specs.Traces.{sourceHost, sourcesOf, traceOf, traceRejection, Started}
 use Rattle.histories.specs.TraceLaws.{hostOf, ImmutableHosts, TraceLaws}
-use Rattle.histories.proofs.Seats.{Found, found}
+use Rattle.histories.proofs.NamedReplicas.{IsNamed, is-named}
 use Rattle.histories.proofs.Traces.{started, names, along, next-host, sources-length}
 
 -- a call that is accepted has found its replica
-there : (w : List ℕ) (z i h : ℕ) → traceRejection w z i h ≡ 0 → Found w z i h
-unfolding traceRejection seatNamed
-there w z i h e = found w z i h e
+there : (w : List ℕ) (z i h : ℕ) → traceRejection w z i h ≡ 0 → IsNamed w z i h
+unfolding traceRejection foundNamed
+there w z i h e = is-named w z i h e
 
 module _ (w : List ℕ) (z i h : ℕ) (e : traceRejection w z i h ≡ 0) where
   -- the trace of a replica that is not pending

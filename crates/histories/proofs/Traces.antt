@@ -7,21 +7,22 @@ use mathlib.Core.List.{List, [], _∷_, _++_, append-assoc}
 use lib.ListN.{length, getD, take, set, replicate, length-append}
 use lib.Seq.{set-at, take-suc, take-all, length-take-le}
 use borrow.Author.Tests.{ltb-true, lt-ltb}
-use Rattle.model.specs.declared.configuration.Configuration.{Configuration}
+use Rattle.types.specs.declared.configuration.Configuration.{Configuration}
 use Rattle.model.specs.Replicas.{isPending}
 use Rattle.model.specs.Layout.{installed, isInstalled, replicaAt}
-use Rattle.model.specs.Configuration.{configuration, replicaPlace, replicaOf, replicaIn}
+use Rattle.model.specs.Configuration.{configuration, replicaOf, replicaIn}
+use Rattle.types.specs.ReplicaPlace.{replicaPlace}
 use Rattle.model.specs.Inherit.{source}
 use Rattle.model.proofs.Fields.{origin-word}
 use Rattle.model.proofs.Origins.{Named, named, has-source}
 use Rattle.model.proofs.WellFormedMembers.{member-origin}
-use Rattle.lookup.proofs.Fields.{formed}
-use Rattle.lookup.proofs.Seats.{member-placed}
+use Rattle.lookup.proofs.ReadyFields.{formed}
+use Rattle.lookup.proofs.FoundReplicas.{member-placed}
 use Rattle.histories.specs.Traces.{sourceHost, sourcesOf, padded, Started}
-use Rattle.histories.proofs.Seats.{Found}
+use Rattle.histories.proofs.NamedReplicas.{IsNamed}
 
 -- a replica that a caller named and that is not pending is one to start from
-pub started : {w : List ℕ} {z i h : ℕ} → Found w z i h → isPending (replicaIn w z (i - 1) h) ≡ false → Started w z (i - 1) h
+pub started : {w : List ℕ} {z i h : ℕ} → IsNamed w z i h → isPending (replicaIn w z (i - 1) h) ≡ false → Started w z (i - 1) h
 started f r = record { ready = record { ready = f .ready; host = f .inRange .host }; there = f .there; member = f .member; running = r }
 
 -- ---- one step back

@@ -6,7 +6,7 @@ use Rattle.model.specs.OneList.{stableOf}
 use Rattle.model.specs.Results.{countBeside}
 use Rattle.histories.specs.declared.Listing.{Listing}
 use Rattle.histories.specs.Listing.{hasRoom, listingOf, afterListingOf}
-use Rattle.histories.specs.Seats.{seatChecks}
+use Rattle.histories.specs.NamedReplicas.{replicaChecks}
 
 -- what host h shows of index i of shard z: the stable prefix that the one list speaks of
 unfoldable pub shown : List ℕ → ℕ → ℕ → ℕ → List ℕ
@@ -14,7 +14,7 @@ shown w z i h = stableOf w z (i - 1) h
 
 -- 1, 7, 9, 10, 11, and the output's 8 last
 unfoldable pub prefixRejection : List ℕ → ℕ → ℕ → ℕ → List ℕ → ℕ
-prefixRejection w z i h out = firstOf (seatChecks w z i h ++ (hasRoom (shown w z i h) out ∷ []))
+prefixRejection w z i h out = firstOf (replicaChecks w z i h ++ (hasRoom (shown w z i h) out ∷ []))
 
 -- how many entries are copied, 0 at a rejection
 unfoldable pub prefixCount : List ℕ → ℕ → ℕ → ℕ → List ℕ → ℕ

@@ -4,7 +4,7 @@ use mathlib.Core.Path.{_≡_}
 use mathlib.Core.Bool.{true, false}
 use mathlib.Core.List.{List}
 use lib.ListN.{length, getD}
-use Rattle.model.specs.Members.{hasMember}
+use Rattle.types.specs.Members.{hasMember}
 use Rattle.model.specs.Replicas.{isPending, isImmutable}
 use Rattle.model.specs.Layout.{members}
 use Rattle.model.specs.Setup.{setupRejection, afterSetup}

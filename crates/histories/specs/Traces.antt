@@ -6,13 +6,13 @@ use mathlib.Core.List.{List, [], _∷_, _++_}
 use lib.Dec.{eqb}
 use lib.ListN.{length, replicate}
 use Rattle.model.specs.Checks.{firstOf}
-use Rattle.model.specs.Members.{hasMember}
+use Rattle.types.specs.Members.{hasMember}
 use Rattle.model.specs.Replicas.{isPending}
 use Rattle.model.specs.Layout.{isInstalled, members}
 use Rattle.model.specs.Configuration.{replicaIn}
 use Rattle.lookup.specs.Ready.{ReadyHost}
 use Rattle.histories.specs.declared.trace.HostTrace.{HostTrace}
-use Rattle.histories.specs.Seats.{seatChecks}
+use Rattle.histories.specs.NamedReplicas.{replicaChecks}
 
 -- the host from which the replica of host h in configuration j began: its word 3 is "the source box + 1"
 unfoldable pub sourceHost : List ℕ → ℕ → ℕ → ℕ → ℕ
@@ -29,7 +29,7 @@ traceOf w z j h = cond (isPending (replicaIn w z j h)) [] (sourcesOf w z j h)
 
 -- "Checks are 1, 7, 9, 10, 11"
 unfoldable pub traceRejection : List ℕ → ℕ → ℕ → ℕ → ℕ
-traceRejection w z i h = firstOf (seatChecks w z i h)
+traceRejection w z i h = firstOf (replicaChecks w z i h)
 
 -- "at most seven": one for each configuration after the first
 abbrev pub mostHosts : ℕ

@@ -1,13 +1,13 @@
 // Entries copied to the start of an output.
 use crate::Listing;
-use model::layout::ENTRIES;
-use model::layout::STABLE;
+use types::layout::ENTRIES;
+use types::layout::STABLE;
 ghost use mathlib.Core.Path.{_≡_};
 ghost use mathlib.Core.List.{_++_};
 ghost use Prim.Native.Nat.{_≤_};
 ghost use lib.ListN.{length, drop};
 ghost use Rattle.histories.specs.Listing.{listingNumber, listingCount};
-ghost use Rattle.histories.specs.Entries.{HasEntries, copyingRejection, copiedCount, copying, afterCopying};
+ghost use Rattle.histories.specs.StableEntries.{HasEntries, copyingRejection, copiedCount, copying, afterCopying};
 
 // The stable prefix of the replica at a place: how many entries were copied, or rejection 8 and the output untouched.
 pub fn copy_entries(state: &[u64], place: usize, out: &mut [u64]) -> Listing

@@ -2,9 +2,9 @@
 
 pub mod copy;
 pub mod history;
+mod named;
 pub mod pick;
 pub mod prefix;
-mod seat;
 pub mod trace;
 
 // How many entries were copied, or the rejection.

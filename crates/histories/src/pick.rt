@@ -1,8 +1,8 @@
 // The pick of a shard's longest stable history.
-use model::layout::HEAD_WORDS;
-use model::layout::REPLICA_WORDS;
-use model::layout::SHARD_WORDS;
-use model::layout::STABLE;
+use types::layout::HEAD_WORDS;
+use types::layout::REPLICA_WORDS;
+use types::layout::SHARD_WORDS;
+use types::layout::STABLE;
 ghost use mathlib.Core.Path.{_≡_};
 ghost use Rattle.histories.specs.History.{longestPlace, OfShard};
 

@@ -1,7 +1,7 @@
 // A replica's stable prefix, copied to an output: what a host shows.
 use crate::Listing;
 use crate::copy::copy_entries;
-use crate::seat::find_seat;
+use crate::named::find_named;
 ghost use mathlib.Core.Path.{_≡_};
 ghost use Rattle.histories.specs.Listing.{listingNumber, listingCount};
 ghost use Rattle.histories.specs.Prefix.{prefixRejection, prefixCount, prefixListing, afterPrefix};
@@ -13,10 +13,10 @@ pub fn stable_prefix(state: &[u64], shard: u64, index: u64, host: u64, out: &mut
     ensures { λ r. ⌜ r ≡ prefixListing (now (state .entry)) shard index host (now (out .entry)) ⌝ }
     ensures { λ _. ⌜ now (out .exit) ≡ afterPrefix (now (state .entry)) shard index host (now (out .entry)) ⌝ }
 {
-    let seat = find_seat(state, shard, index, host);
-    let place = seat.place;
-    if seat.answer != 0 {
-        return Listing::Rejected(seat.answer);
+    let found = find_named(state, shard, index, host);
+    let place = found.place;
+    if found.answer != 0 {
+        return Listing::Rejected(found.answer);
     }
     copy_entries(state, place, out)
 }

@@ -1,7 +1,7 @@
 // Where a replica got its history: the hosts from which it and its sources began, back to the first configuration.
-use crate::seat::find_seat;
-use model::layout::ORIGIN;
-use model::layout::PENDING;
+use crate::named::find_named;
+use types::layout::ORIGIN;
+use types::layout::PENDING;
 ghost use mathlib.Core.Path.{_≡_};
 ghost use mathlib.Core.List.{[]};
 ghost use Rattle.histories.specs.Traces.{sourcesOf, padded, listed, traced, Started};
@@ -20,10 +20,10 @@ pub struct HostTrace {
 pub fn trace(state: &[u64], shard: u64, index: u64, host: u64) -> HostTrace
     ensures { λ r. ⌜ r ≡ traced (now (state .entry)) shard index host ⌝ }
 {
-    let seat = find_seat(state, shard, index, host);
-    let place = seat.place;
-    if seat.answer != 0 {
-        return no_hosts(seat.answer);
+    let found = find_named(state, shard, index, host);
+    let place = found.place;
+    if found.answer != 0 {
+        return no_hosts(found.answer);
     }
     if state[place] == PENDING {
         return no_hosts(0);

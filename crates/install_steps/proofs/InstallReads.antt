@@ -16,9 +16,9 @@ use Rattle.model.proofs.WellFormedMembers.{member-proper}
 use Rattle.model.proofs.WellFormedInstall.{sequencer-below}
 use Rattle.lookup.specs.Ready.{Ready, ReadyHost}
 use Rattle.model.proofs.Fields.{stable-word}
-use Rattle.lookup.proofs.Fields.{formed}
-use Rattle.lookup.proofs.Seats.{At, words-at}
-use Rattle.lookup.proofs.Words.{length-word, history-words}
+use Rattle.lookup.proofs.ReadyFields.{formed}
+use Rattle.lookup.proofs.FoundReplicas.{At, words-at}
+use Rattle.lookup.proofs.StateWords.{length-word, history-words}
 use Rattle.lookup.specs.Searches.{issuedIn}
 use Rattle.lookup.proofs.Searches.{none-issued}
 

@@ -8,10 +8,10 @@ use mathlib.Core.List.{List}
 use borrow.Author.Tests.{lt-ltb, le-ltb, eqb-true, eq-eqb, ne-eqb, not-true, not-false}
 use lib.Dec.{eqb}
 use lib.ListN.{getD, take, drop}
-use Rattle.model.specs.declared.kind.Kind.the-variants.{Install}
+use Rattle.types.specs.declared.kind.Kind.the-variants.{Install}
 use Rattle.model.specs.Checks.{firstOf}
-use Rattle.model.specs.Kinds.{isKept, isUnknown, namesHost}
-use Rattle.model.specs.Rules.{Known, mostFourth}
+use Rattle.types.specs.Kinds.{isKept, isUnknown, namesHost}
+use Rattle.types.specs.Rules.{Known, mostFourth}
 use Rattle.model.specs.Entries.{isIssue, isIssueFor, issueShard, issueIndex, issueMembers, issueOrderer}
 use Rattle.model.specs.Layout.{sequencer}
 use Rattle.model.specs.Install.{issuer, issuedAt, noneBefore, isStableIssue, isNewestWedged, installChecks, installNext, installEffect}
@@ -20,13 +20,13 @@ use Rattle.model.proofs.Heads.{installed-word}
 use Rattle.model.proofs.Tests.{and-left, and-right}
 use Rattle.model.proofs.Checks.{AllPass, passed}
 use Rattle.model.proofs.WellFormedInstall.{issue-proper, next-index}
-use Rattle.lookup.specs.declared.Seat.{Seat}
+use Rattle.lookup.specs.declared.Found.{Found}
 use Rattle.lookup.specs.Ready.{ReadyHost, Placed}
-use Rattle.lookup.specs.Seats.{seatOf}
+use Rattle.lookup.specs.FoundReplicas.{foundOf}
 use Rattle.lookup.specs.Searches.{issuedIn}
-use Rattle.lookup.specs.Kinds.{ReadyKind, kindAnswer, kindAfter}
-use Rattle.lookup.proofs.Fields.{formed}
-use Rattle.lookup.proofs.Seats.{At, at-found, early}
+use Rattle.lookup.specs.KindContracts.{ReadyKind, kindAnswer, kindAfter}
+use Rattle.lookup.proofs.ReadyFields.{formed}
+use Rattle.lookup.proofs.FoundReplicas.{At, at-found, early}
 use Rattle.lookup.proofs.KindAnswers.{rejects, accepts, fourth-small, ready-host}
 use Rattle.install_steps.specs.Next.{ReadyNext}
 use Rattle.install_steps.proofs.InstallReads.{stable-is, issued-is, none-is}
@@ -45,8 +45,8 @@ module _ {w : List ℕ} {n z j : ℕ} (p : ReadyKind w n z j) (h q : ℕ) {b : B
   unfolding mostFourth
   few = fourth-small Install p h q test e known
 
-  -- r is the seat that was found
-  module _ {r : Seat} (s : r ≡ seatOf w (sequencer w z) j h) where
+  -- r is the replica that was found
+  module _ {r : Found} (s : r ≡ foundOf w (sequencer w z) j h) where
     pub nowhere : (r .answer ≡ 0 → ⊥) → (r .answer ≡ kindAnswer Install w z j h q) × (w ≡ kindAfter Install w z j h q)
     unfolding kindChecks installChecks
     nowhere m = rejects Install p h q test e (early w (sequencer w z) j h r s _ m) m

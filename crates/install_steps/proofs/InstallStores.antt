@@ -5,7 +5,7 @@ use native.Mathlib.Omega.{arith}
 use mathlib.Core.Path.{_≡_, ap, _∙_}
 use mathlib.Core.List.{List}
 use lib.ListN.{length, getD, set, length-set}
-use Rattle.model.specs.Members.{size}
+use Rattle.types.specs.Members.{size}
 use Rattle.model.specs.Replicas.{readReplica, replicaWords, unused}
 use Rattle.model.specs.Layout.{shardsOf, place, part, headPlace, installed, putHead}
 use Rattle.model.specs.Install.{installNext}
@@ -16,7 +16,7 @@ use Rattle.model.proofs.WellFormedParts.{vacant-unused, part-is-words, part-vac
 use Rattle.model.proofs.WellFormedMembers.{configured}
 use Rattle.model.proofs.WellFormedInstall.{old-vacant}
 use Rattle.install_steps.specs.Next.{ReadyNext, Unused, pendingFrom}
-use Rattle.lookup.proofs.Fields.{formed}
+use Rattle.lookup.proofs.ReadyFields.{formed}
 use Rattle.install_steps.proofs.PendingStores.{pending-from}
 
 -- the state with the three head words of configuration n

@@ -7,7 +7,8 @@ use mathlib.Core.Path.{_≡_, refl, ap₂, _∙_}
 use mathlib.Core.List.{List}
 use lib.ListN.{length, set}
 use Rattle.model.specs.Replicas.{unused, pending}
-use Rattle.model.specs.Layout.{partWords, place, part, putReplica}
+use Rattle.types.specs.ReplicaPlace.{partWords}
+use Rattle.model.specs.Layout.{place, part, putReplica}
 use Rattle.model.specs.Install.{putPending}
 use Rattle.model.proofs.Parts.{put-length, part-put-other, behind}
 use Rattle.lookup.proofs.Stores.{store-mode}

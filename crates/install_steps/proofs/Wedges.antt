@@ -15,7 +15,7 @@ use Rattle.model.proofs.Fields.{mode-word, immutable-word}
 use Rattle.model.proofs.Heads.{installed-word}
 use Rattle.model.proofs.WellFormedMembers.{size-few, number-in-use}
 use Rattle.lookup.specs.Ready.{Ready}
-use Rattle.lookup.proofs.Fields.{formed}
+use Rattle.lookup.proofs.ReadyFields.{formed}
 use Rattle.install_steps.proofs.InstallReads.{installed-few}
 
 -- the mode of replica k of configuration j of shard z

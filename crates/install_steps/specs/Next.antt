@@ -4,9 +4,10 @@ use mathlib.Core.Path.{_≡_}
 use mathlib.Core.Bool.{true}
 use mathlib.Core.List.{List}
 use lib.ListN.{length, getD}
-use Rattle.model.specs.Members.{isConfiguration}
+use Rattle.types.specs.Members.{isConfiguration}
 use Rattle.model.specs.Replicas.{replicaWords, unused, pending}
-use Rattle.model.specs.Layout.{shardWords, partWords, shardsOf, part, putReplica}
+use Rattle.model.specs.Layout.{shardWords, shardsOf, part, putReplica}
+use Rattle.types.specs.ReplicaPlace.{partWords}
 use Rattle.lookup.specs.Ready.{Formed}
 
 -- shard z has room for one more configuration, and the member set m with its orderer o is proper

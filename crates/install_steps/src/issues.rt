@@ -1,5 +1,4 @@
 // Issues told by the shard that they are for.
-use model::entry;
 ghost use mathlib.Core.Path.{_≡_};
 ghost use Rattle.model.specs.Entries.{isIssueFor};
 
@@ -7,8 +6,8 @@ ghost use Rattle.model.specs.Entries.{isIssueFor};
 pub fn is_issue_for(z: usize, e: u64) -> bool
     ensures { λ r. ⌜ r ≡ isIssueFor z e ⌝ }
 {
-    if !entry::is_issue(e) {
+    if !issue_words::is_issue(e) {
         return false;
     }
-    entry::issue_shard(e) == z as u64
+    issue_words::issue_shard(e) == z as u64
 }

@@ -3,29 +3,28 @@
 use crate::issues::is_issue_for;
 use crate::next::install_next;
 use crate::wedged::is_newest_wedged;
-use arguments::are_numbers;
-use lookup::Seat;
+use lookup::Found;
 use lookup::entries::is_issued;
-use model::entry;
-use model::kind::Kind;
-use model::layout::ENTRIES;
-use model::layout::INSTALLED;
-use model::layout::SHARD_WORDS;
-use model::layout::STABLE;
+use step_numbers::are_numbers;
+use types::kind::Kind;
+use types::layout::ENTRIES;
+use types::layout::INSTALLED;
+use types::layout::SHARD_WORDS;
+use types::layout::STABLE;
 ghost use mathlib.Core.Path.{_≡_};
 ghost use Rattle.model.specs.Layout.{sequencer};
 ghost use Rattle.lookup.specs.Ready.{ReadyHost, Placed};
-ghost use Rattle.lookup.specs.Seats.{seatOf};
-ghost use Rattle.lookup.specs.Kinds.{ReadyKind, kindAnswer, kindAfter};
+ghost use Rattle.lookup.specs.FoundReplicas.{foundOf};
+ghost use Rattle.lookup.specs.KindContracts.{ReadyKind, kindAnswer, kindAfter};
 
 mod issues;
 mod next;
 mod wedged;
 
 // The replica of a host in configuration j of the sequencer of shard z.
-fn issuer(state: &[u64], z: usize, j: usize, host: u64) -> Seat
+fn issuer(state: &[u64], z: usize, j: usize, host: u64) -> Found
     requires { ⌜ ReadyHost (now state) z j host ⌝ }
-    ensures { λ r. ⌜ (r ≡ seatOf (now (state .entry)) (sequencer (now (state .entry)) z) j host) × Placed (now (state .entry)) (r .place) ⌝ }
+    ensures { λ r. ⌜ (r ≡ foundOf (now (state .entry)) (sequencer (now (state .entry)) z) j host) × Placed (now (state .entry)) (r .place) ⌝ }
 {
     let y = state[z * SHARD_WORDS] as usize;
     lookup::find(state, y, j, host)
@@ -41,10 +40,10 @@ pub fn install(state: &mut [u64], shards: usize, z: usize, j: usize, host: u64, 
     if !are_numbers(Kind::Install, shards, host, place) {
         return 7;
     }
-    let seat = issuer(state, z, j, host);
-    let p = seat.place;
-    if seat.answer != 0 {
-        return seat.answer;
+    let found = issuer(state, z, j, host);
+    let p = found.place;
+    if found.answer != 0 {
+        return found.answer;
     }
     if state[p + STABLE] <= place {
         return 20;
@@ -55,7 +54,7 @@ pub fn install(state: &mut [u64], shards: usize, z: usize, j: usize, host: u64, 
     if !is_issue_for(z, e) {
         return 20;
     }
-    let index = entry::issue_index(e);
+    let index = issue_words::issue_index(e);
     if index != state[z * SHARD_WORDS + INSTALLED] + 1 {
         return 21;
     }
@@ -65,6 +64,11 @@ pub fn install(state: &mut [u64], shards: usize, z: usize, j: usize, host: u64, 
     if is_issued(&state[from..at], e) {
         return 22;
     }
-    install_next(state, z, entry::issue_members(e), entry::issue_orderer(e));
+    install_next(
+        state,
+        z,
+        issue_words::issue_members(e),
+        issue_words::issue_orderer(e),
+    );
     0
 }

@@ -1,13 +1,13 @@
 // The next configuration of a shard: its head words, and its members' replicas pending.
-use model::configuration::Configuration;
-use model::layout::CONFIGURATION_WORDS;
-use model::layout::HEAD_WORDS;
-use model::layout::INSTALLED;
-use model::layout::MEMBERS;
-use model::layout::ORDERERS;
-use model::layout::PENDING;
-use model::layout::REPLICA_WORDS;
-use model::layout::SHARD_WORDS;
+use types::configuration::Configuration;
+use types::layout::CONFIGURATION_WORDS;
+use types::layout::HEAD_WORDS;
+use types::layout::INSTALLED;
+use types::layout::MEMBERS;
+use types::layout::ORDERERS;
+use types::layout::PENDING;
+use types::layout::REPLICA_WORDS;
+use types::layout::SHARD_WORDS;
 ghost use mathlib.Core.Path.{_≡_};
 ghost use Rattle.model.specs.Install.{installNext};
 ghost use Rattle.install_steps.specs.Next.{ReadyNext, Unused, pendingFrom};

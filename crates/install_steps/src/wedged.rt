@@ -1,10 +1,10 @@
 // Whether a shard's newest configuration is wedged.
-use model::layout::CONFIGURATION_WORDS;
-use model::layout::HEAD_WORDS;
-use model::layout::IMMUTABLE;
-use model::layout::INSTALLED;
-use model::layout::REPLICA_WORDS;
-use model::layout::SHARD_WORDS;
+use types::layout::CONFIGURATION_WORDS;
+use types::layout::HEAD_WORDS;
+use types::layout::IMMUTABLE;
+use types::layout::INSTALLED;
+use types::layout::REPLICA_WORDS;
+use types::layout::SHARD_WORDS;
 ghost use mathlib.Core.Path.{_≡_};
 ghost use Rattle.model.specs.Install.{isWedged, isNewestWedged};
 ghost use Rattle.lookup.specs.Ready.{Ready};

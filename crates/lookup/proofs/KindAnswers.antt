@@ -7,15 +7,15 @@ use mathlib.Core.Bool.{Bool, true, false, not}
 use mathlib.Core.List.{List}
 use lib.ListN.{length}
 use borrow.Author.Tests.{ne-eqb, not-true, not-false}
-use Rattle.model.specs.declared.kind.Kind.{Kind}
+use Rattle.types.specs.declared.kind.Kind.{Kind}
 use Rattle.model.specs.Checks.{firstOf}
-use Rattle.model.specs.Kinds.{namesHost}
-use Rattle.model.specs.Rules.{Known, mostFourth}
+use Rattle.types.specs.Kinds.{namesHost}
+use Rattle.types.specs.Rules.{Known, mostFourth}
 use Rattle.model.specs.Layout.{shardsOf}
 use Rattle.model.specs.Steps.{areNumbers, kindChecks, kindEffect}
-use Rattle.model.proofs.Rules.{numbers-tell, host-told}
+use Rattle.model.proofs.StepNumbers.{numbers-tell, host-told}
 use Rattle.lookup.specs.Ready.{ReadyHost}
-use Rattle.lookup.specs.Kinds.{ReadyKind, kindAnswer, kindAfter}
+use Rattle.lookup.specs.KindContracts.{ReadyKind, kindAnswer, kindAfter}
 
 module _ (k : Kind) {w : List ℕ} {n z j : ℕ} (p : ReadyKind w n z j) (c d : ℕ) {b : Bool} (test : b ≡ areNumbers k n c d) where
   tested : {t : Bool} → b ≡ t → areNumbers k (shardsOf (length w)) c d ≡ t

@@ -1,8 +1,8 @@
 -- Laws of well-formed states, of their words, and of where replicas are.
 pub mod Formed
-pub mod Fields
-pub mod Words
-pub mod Seats
+pub mod ReadyFields
+pub mod StateWords
+pub mod FoundReplicas
 pub mod Orderers
 pub mod Stores
 pub mod Likes

@@ -14,8 +14,8 @@ use Rattle.model.specs.WellFormed.{isHeadOf}
 use Rattle.model.proofs.Tests.{both}
 use Rattle.model.proofs.WellFormedMembers.{Configured, head-installed}
 use Rattle.lookup.specs.Ready.{Ready, ReadyInstalled, Placed}
-use Rattle.lookup.proofs.Fields.{formed}
-use Rattle.lookup.proofs.Seats.{At, member-placed}
+use Rattle.lookup.proofs.ReadyFields.{formed}
+use Rattle.lookup.proofs.FoundReplicas.{At, member-placed}
 
 -- the head words of a configuration
 head : {w : List ℕ} {z j : ℕ} → Ready w z j → isHeadOf w z j ≡ true

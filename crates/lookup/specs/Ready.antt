@@ -5,7 +5,8 @@ use mathlib.Core.Bool.{true}
 use mathlib.Core.List.{List}
 use lib.ListN.{length}
 use Rattle.model.specs.Replicas.{replicaWords}
-use Rattle.model.specs.Layout.{shardWords, partWords, shardsOf, isInstalled, part, replicaAt}
+use Rattle.model.specs.Layout.{shardWords, shardsOf, isInstalled, part, replicaAt}
+use Rattle.types.specs.ReplicaPlace.{partWords}
 use Rattle.model.specs.WellFormed.{wellFormed}
 
 -- a well-formed state, with what that says of its length

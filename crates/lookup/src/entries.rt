@@ -1,5 +1,4 @@
 // Entries looked for in a history: an entry itself, or an issue for a shard and an index.
-use model::entry;
 ghost use mathlib.Core.Path.{_≡_};
 ghost use mathlib.Core.Bool.{true};
 ghost use Prim.Native.Nat.{_≤_, _<_};
@@ -60,5 +59,5 @@ pub fn is_issued(history: &[u64], e: u64) -> bool
     requires { ⌜ isIssue e ≡ true ⌝ }
     ensures { λ r. ⌜ r ≡ issuedIn (issueShard e) (issueIndex e) (now (history .entry)) ⌝ }
 {
-    has_like(history, e, entry::SHARD_BIT)
+    has_like(history, e, issue_words::SHARD_BIT)
 }

@@ -1,18 +1,18 @@
 // Looking into a well-formed state: configurations by value, and where a host's replica is. No entry point: callers have tested the state.
-use model::configuration::Configuration;
-use model::layout::CONFIGURATION_WORDS;
-use model::layout::HEAD_WORDS;
-use model::layout::INSTALLED;
-use model::layout::MEMBERS;
-use model::layout::ORDERERS;
-use model::layout::SHARD_WORDS;
+use types::configuration::Configuration;
+use types::layout::CONFIGURATION_WORDS;
+use types::layout::HEAD_WORDS;
+use types::layout::INSTALLED;
+use types::layout::MEMBERS;
+use types::layout::ORDERERS;
+use types::layout::SHARD_WORDS;
 ghost use mathlib.Core.Path.{_≡_};
 ghost use Prim.Native.Nat.{_+_};
 ghost use Rattle.model.specs.Layout.{isInstalled};
 ghost use Rattle.model.specs.Configuration.{configuration};
 ghost use Rattle.model.specs.Add.{ordererPlace};
 ghost use Rattle.lookup.specs.Ready.{Ready, ReadyHost, ReadyInstalled, Placed};
-ghost use Rattle.lookup.specs.Seats.{seatOf};
+ghost use Rattle.lookup.specs.FoundReplicas.{foundOf};
 
 pub mod entries;
 
@@ -38,30 +38,30 @@ pub fn configuration_of(state: &[u64], z: usize, j: usize) -> Configuration
 }
 
 // Where a host's replica is: its place, or the rejection 10 or 11.
-pub struct Seat {
+pub struct Found {
     pub answer: u64,
     pub place: usize,
 }
 
 // The replica of a host in configuration j of shard z.
-pub fn find(state: &[u64], z: usize, j: usize, host: u64) -> Seat
+pub fn find(state: &[u64], z: usize, j: usize, host: u64) -> Found
     requires { ⌜ ReadyHost (now state) z j host ⌝ }
-    ensures { λ r. ⌜ (r ≡ seatOf (now (state .entry)) z j host) × Placed (now (state .entry)) (r .place) ⌝ }
+    ensures { λ r. ⌜ (r ≡ foundOf (now (state .entry)) z j host) × Placed (now (state .entry)) (r .place) ⌝ }
 {
     if !is_installed(state, z, j) {
-        return Seat {
+        return Found {
             answer: 10,
             place: 0,
         };
     }
     let c = configuration_of(state, z, j);
     if !c.has(host) {
-        return Seat {
+        return Found {
             answer: 11,
             place: 0,
         };
     }
-    Seat {
+    Found {
         answer: 0,
         place: c.replica(host),
     }

@@ -8,19 +8,20 @@ use mathlib.Core.List.{List, [], _∷_}
 use lib.Dec.{leb, ltb}
 use lib.ListN.{length}
 use borrow.Author.Tests.{le-leb, leb-true, ltb-true}
-use Rattle.model.specs.declared.kind.Kind.{Kind}
-use Rattle.model.specs.declared.kind.Kind.the-variants.{Kept, Unknown}
-use Rattle.model.specs.declared.step.Step.{Step}
+use Rattle.types.specs.declared.kind.Kind.{Kind}
+use Rattle.types.specs.declared.kind.Kind.the-variants.{Kept, Unknown}
+use Rattle.types.specs.declared.step.Step.{Step}
 use Rattle.model.specs.Checks.{firstOf}
-use Rattle.model.specs.Kinds.{kindOf, isKept, isUnknown, namesHost}
-use Rattle.model.specs.Rules.{Known}
+use Rattle.types.specs.Kinds.{kindOf, isKept, isUnknown, namesHost}
+use Rattle.types.specs.Rules.{Known}
 use Rattle.model.specs.Layout.{shardsOf, isStateLength}
-use Rattle.model.specs.Steps.{shardOf, configurationOf, actingHost, inRange, stepChecks, rejection, effect, after}
+use Rattle.types.specs.StepNames.{shardOf, configurationOf, actingHost}
+use Rattle.model.specs.Steps.{inRange, stepChecks, rejection, effect, after}
 use Rattle.model.proofs.Tests.{all-pass}
-use Rattle.arguments.specs.Numbers.{isIndexOf, rangeRejection}
-use Rattle.arguments.proofs.Ranges.{index}
+use Rattle.step_numbers.specs.StepRanges.{isIndexOf, rangeRejection}
+use Rattle.step_numbers.proofs.StepRanges.{index}
 use Rattle.lookup.specs.Ready.{Formed}
-use Rattle.lookup.specs.Kinds.{ReadyKind, kindAnswer, kindAfter}
+use Rattle.lookup.specs.KindContracts.{ReadyKind, kindAnswer, kindAfter}
 use Rattle.machine.specs.Inside.{ReadyStep}
 use Rattle.machine.proofs.Ladders.{rejects-early}
 

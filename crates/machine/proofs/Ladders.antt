@@ -8,15 +8,16 @@ use mathlib.Core.List.{List}
 use lib.Dec.{eqb}
 use lib.ListN.{length}
 use borrow.Author.Tests.{le-leb, lt-leb, eq-eqb, ne-eqb, not-true, not-false}
-use Rattle.model.specs.declared.step.Step.{Step}
+use Rattle.types.specs.declared.step.Step.{Step}
 use Rattle.model.specs.Checks.{firstOf}
-use Rattle.model.specs.Kinds.{kindOf, isKept, isUnknown}
+use Rattle.types.specs.Kinds.{kindOf, isKept, isUnknown}
 use Rattle.model.specs.Layout.{shardsOf, isStateLength}
 use Rattle.model.specs.WellFormed.{wellFormed}
-use Rattle.model.specs.Steps.{shardOf, configurationOf, areNumbers, inRange, kindChecks, stepChecks, rejection, after}
+use Rattle.types.specs.StepNames.{shardOf, configurationOf}
+use Rattle.model.specs.Steps.{areNumbers, inRange, kindChecks, stepChecks, rejection, after}
 use Rattle.model.proofs.WellFormedSteps.{after-rejected}
 use Rattle.model.proofs.Lengths.{several}
-use Rattle.arguments.specs.Numbers.{isIndexOf, rangeRejection}
+use Rattle.step_numbers.specs.StepRanges.{isIndexOf, rangeRejection}
 
 -- 3, 4 and 7 of the kind, the shard and the index as one, and 7 of the other numbers
 ladder : (a b i t : Bool) (k : ℕ)

@@ -3,9 +3,9 @@ use Prim.Native.Nat.{ℕ}
 use mathlib.Core.Path.{_≡_}
 use mathlib.Core.List.{List}
 use lib.ListN.{length}
-use Rattle.model.specs.declared.step.Step.{Step}
+use Rattle.types.specs.declared.step.Step.{Step}
 use Rattle.model.specs.Layout.{shardsOf}
-use Rattle.arguments.specs.Numbers.{rangeRejection}
+use Rattle.step_numbers.specs.StepRanges.{rangeRejection}
 use Rattle.lookup.specs.Ready.{Formed}
 
 -- a well-formed state with its number of shards, and a step

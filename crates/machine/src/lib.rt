@@ -1,6 +1,6 @@
 // A step: the machine over a borrowed state of 64-bit words.
-use model::kind::Kind;
-use model::step::Step;
+use types::kind::Kind;
+use types::step::Step;
 ghost use mathlib.Core.Path.{_≡_};
 ghost use lib.ListN.{length};
 ghost use Rattle.model.specs.Layout.{shardsOf};
@@ -18,12 +18,12 @@ pub fn step(state: &mut [u64], s: Step) -> u64
     if shards == 0 {
         return 1;
     }
-    let early = arguments::range_rejection(shards, s);
+    let early = step_numbers::range_rejection(shards, s);
     if early != 0 {
         return early;
     }
     if !wellformed::well_formed(state) {
-        if !arguments::are_numbers(Kind::of(s.kind), shards, s.c, s.d) {
+        if !step_numbers::are_numbers(Kind::of(s.kind), shards, s.c, s.d) {
             return 7;
         }
         return 9;
@@ -37,7 +37,7 @@ pub fn step_inside(state: &mut [u64], shards: usize, s: Step) -> u64
     ensures { λ r. ⌜ r ≡ rejection (now (state .entry)) s ⌝ }
     ensures { λ _. ⌜ now (state .exit) ≡ after (now (state .entry)) s ⌝ }
 {
-    let early = arguments::range_rejection(shards, s);
+    let early = step_numbers::range_rejection(shards, s);
     if early != 0 {
         return early;
     }
@@ -55,12 +55,12 @@ fn act(state: &mut [u64], shards: usize, s: Step) -> u64
     let host = s.host(lookup::configuration_of(state, z, j).orderer);
     match Kind::of(s.kind) {
         Kind::Add => replica_steps::add::add(state, shards, z, j, host, s.c, s.d),
-        Kind::Adopt => copy_steps::adopt::adopt(state, shards, z, j, host, s.d),
-        Kind::Learn => replica_steps::learn::learn(state, shards, z, j, host, s.d),
-        Kind::Wedge => replica_steps::wedge::wedge(state, shards, z, j, host, s.d),
+        Kind::Adopt => adopt_steps::adopt(state, shards, z, j, host, s.d),
+        Kind::Learn => learn_steps::learn::learn(state, shards, z, j, host, s.d),
+        Kind::Wedge => wedge_steps::wedge::wedge(state, shards, z, j, host, s.d),
         Kind::Install => install_steps::install(state, shards, z, j, host, s.d),
-        Kind::Inherit => copy_steps::inherit::inherit(state, shards, z, j, host, s.d),
-        Kind::CatchUp => copy_steps::catch_up::catch_up(state, shards, z, j, host, s.d),
+        Kind::Inherit => inherit_steps::inherit::inherit(state, shards, z, j, host, s.d),
+        Kind::CatchUp => inherit_steps::catch_up::catch_up(state, shards, z, j, host, s.d),
         Kind::Kept => 3,
         Kind::Unknown => 4,
     }

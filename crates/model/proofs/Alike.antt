@@ -8,7 +8,7 @@ use lib.Dec.{leb, eqb}
 use lib.ListN.{length, take, getD}
 use lib.Seq.{length-take-le, ext-getD, getD-take}
 use borrow.Author.Tests.{leb-true, eqb-true}
-use Rattle.model.specs.Members.{size}
+use Rattle.types.specs.Members.{size}
 use Rattle.model.specs.Layout.{place, members, replicaAt}
 use Rattle.model.specs.Learn.{alike, allAlike}
 use Rattle.model.specs.Prefixes.{Begins}

@@ -5,11 +5,12 @@ use mathlib.Core.Bool.{cond, not}
 use mathlib.Core.List.{List, [], _∷_}
 use lib.Dec.{eqb}
 use borrow.Author.Tests.{le-leb}
-use Rattle.model.specs.declared.step.Step.{Step}
+use Rattle.types.specs.declared.step.Step.{Step}
 use Rattle.model.specs.Checks.{firstOf, _orElse_}
-use Rattle.model.specs.Kinds.{kindOf, isKept, isUnknown}
+use Rattle.types.specs.Kinds.{kindOf, isKept, isUnknown}
 use Rattle.model.specs.Layout.{isStateLength}
-use Rattle.model.specs.Steps.{shardOf, configurationOf, inRange, kindChecks, stepChecks, rejection, effect, after}
+use Rattle.types.specs.StepNames.{shardOf, configurationOf}
+use Rattle.model.specs.Steps.{inRange, kindChecks, stepChecks, rejection, effect, after}
 use Rattle.model.specs.Marked.{answersFrom}
 use Rattle.model.proofs.WellFormed.{WellFormed, is-well-formed}
 use Rattle.model.proofs.WellFormedSteps.{after-formed}

@@ -5,19 +5,17 @@ use native.Mathlib.Omega.{arith}
 use mathlib.Core.Path.{_≡_, refl}
 use mathlib.Core.List.{List, []}
 use borrow.Author.Tests.{eq-eqb, lt-ltb}
-use Rattle.model.specs.Entries.{issue, isIssue, issueIndex, issueShard, issueOrderer, issueMembers, firstIssue}
-use Rattle.model.specs.Layout.{sequencer, installed, members, orderer, isInstalled}
-use Rattle.model.specs.Setup.{afterSetup}
-use Rattle.model.specs.StableHistory.{stableHistory}
+use Rattle.model.specs.Entries.{issue, isIssue, issueIndex, issueShard, issueOrderer, issueMembers}
+use Rattle.model.specs.Layout.{installed, members, orderer, isInstalled}
 use Rattle.model.specs.OneList.{shards}
 use Rattle.model.specs.Appointed.{IsIssueOf, AppointedIn, Appointed}
 use Rattle.model.proofs.Lengths.{length-of-shards}
 use Rattle.model.proofs.WellFormed.{WellFormed, well-formed}
 use Rattle.model.proofs.WellFormedMembers.{Configured, head-installed}
 use Rattle.model.proofs.Safe.{Safe}
-use Rattle.model.proofs.SafeSetup.{safe-setup}
-use Rattle.model.proofs.RunSteps.{played-run}
+use Rattle.model.proofs.SetupRuns.{from-setup}
 use Rattle.model.proofs.Moments.{safe-at, shards-at}
+use Rattle.model.proofs.Makes.{issued-at}
 
 issue-fixed : (index shard o m : ℕ) → index < 256 → shard < 16 → o < 16 → m < 65536 → IsIssueOf index shard o m (issue index shard o m)
 unfolding issue isIssue issueIndex issueShard issueOrderer issueMembers
@@ -31,7 +29,7 @@ issue-fixed index shard o m hi hs ho hm =
       itsMembers = omega arith;
     }
 
--- the first issue of a configuration of a safe state
+-- the word of the issue of a configuration of a safe state
 module _ {u : List ℕ} {offers : ℕ → List ℕ} (s : Safe u offers) {z j : ℕ} (h : z < shards u) (l : suc j < installed u z) where
   formed : WellFormed (shards u) u
   unfolding shards
@@ -49,10 +47,10 @@ module _ {u : List ℕ} {offers : ℕ → List ℕ} (s : Safe u offers) {z j : �
   unfolding shards
   most = length-of-shards u (shards u) refl (s .several) .1
 
-  first-fixed :
-      IsIssueOf (j + 2) z (orderer u z (suc j)) (members u z (suc j)) (firstIssue z (j + 2) (stableHistory u (sequencer u z)))
-  first-fixed =
-      rw (s .issues z j h l .first)
+  first-fixed : {e : ℕ} → e ≡ issue (j + 2) z (orderer u z (suc j)) (members u z (suc j))
+      → IsIssueOf (j + 2) z (orderer u z (suc j)) (members u z (suc j)) e
+  first-fixed i =
+      rw i
       (issue-fixed (j + 2) z (orderer u z (suc j)) (members u z (suc j)) (omega (arith, few)) (omega (arith, most)) (numbers .host) (numbers .below))
 
 pub appointed : Appointed
@@ -61,8 +59,7 @@ appointed =
     record {
       fixed = issue-fixed;
       inRuns = λ w p e calls z j n h l.
-          let run = played-run (afterSetup w p) calls in
-          let start = safe-setup w p e in
+          let run = from-setup w p e calls in
           let never : ℕ → ℕ → List ℕ = λ z n. [] in
-          first-fixed (safe-at run never start n) (rw (shards-at run never start n) h) l;
+          first-fixed (safe-at run never n) (rw (shards-at run never n) h) l (issued-at run z j n h l);
     }

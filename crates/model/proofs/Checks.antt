@@ -7,11 +7,11 @@ use mathlib.Core.List.{List, [], _∷_, _++_}
 use lib.Dec.{leb, ltb, eqb}
 use lib.ListN.{length}
 use borrow.Author.Tests.{leb-true, ltb-true, eq-eqb, eqb-false}
-use Rattle.model.specs.declared.kind.Kind.{Kind}
-use Rattle.model.specs.declared.kind.Kind.the-variants.{Add, Adopt, Learn, Wedge, Install, Inherit, CatchUp, Kept, Unknown}
-use Rattle.model.specs.declared.step.Step.{Step}
+use Rattle.types.specs.declared.kind.Kind.{Kind}
+use Rattle.types.specs.declared.kind.Kind.the-variants.{Add, Adopt, Learn, Wedge, Install, Inherit, CatchUp, Kept, Unknown}
+use Rattle.types.specs.declared.step.Step.{Step}
 use Rattle.model.specs.Checks.{Check, firstOf}
-use Rattle.model.specs.Kinds.{kindOf}
+use Rattle.types.specs.Kinds.{kindOf}
 use Rattle.model.specs.Layout.{shardsOf, isStateLength}
 use Rattle.model.specs.WellFormed.{wellFormed}
 use Rattle.model.specs.Add.{addChecks}
@@ -21,7 +21,8 @@ use Rattle.model.specs.Wedge.{wedgeChecks}
 use Rattle.model.specs.Install.{installChecks}
 use Rattle.model.specs.Inherit.{inheritChecks}
 use Rattle.model.specs.CatchUp.{catchUpChecks}
-use Rattle.model.specs.Steps.{shardOf, configurationOf, areNumbers, inRange, kindChecks, stepChecks, rejection}
+use Rattle.types.specs.StepNames.{shardOf, configurationOf}
+use Rattle.model.specs.Steps.{areNumbers, inRange, kindChecks, stepChecks, rejection}
 use Rattle.model.proofs.Tests.{both, all-pass}
 
 -- every check passes

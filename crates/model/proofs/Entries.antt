@@ -6,7 +6,7 @@ use mathlib.Core.Bool.{Bool, true, false, _||_}
 use mathlib.Core.List.{[], _∷_}
 use lib.Dec.{leb, ltb}
 use borrow.Author.Tests.{leb-true, ltb-true, eqb-true}
-use Rattle.model.specs.Members.{isConfiguration}
+use Rattle.types.specs.Members.{isConfiguration}
 use Rattle.model.specs.Entries.{isTake, isIssue, issueIndex, issueShard, issueOrderer, issueMembers, isProperIssue, isEntry}
 use Rattle.model.proofs.Tests.{both, all-pass}
 

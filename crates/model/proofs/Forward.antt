@@ -6,7 +6,7 @@ use mathlib.Core.Path.{_≡_, refl, ap, _∙_}
 use mathlib.Core.List.{List}
 use lib.ListN.{length}
 use Rattle.model.specs.Replicas.{stablePrefix}
-use Rattle.model.specs.Layout.{shardsOf, sequencer, installed, members, orderer}
+use Rattle.model.specs.Layout.{shardsOf, installed, members, orderer}
 use Rattle.model.specs.Prefixes.{Begins}
 use Rattle.model.specs.OneList.{shards}
 use Rattle.model.proofs.Prefixes.{begins-refl, begins-trans}
@@ -14,7 +14,6 @@ use Rattle.model.proofs.StateViews.{view}
 
 pub record Forward (w w′ : List ℕ) : Type 0 where
   pub long : length w′ ≡ length w
-  pub sequencers : (z : ℕ) → z < shards w → sequencer w′ z ≡ sequencer w z
   pub installs : (z : ℕ) → z < shards w → installed w z ≤ installed w′ z
   pub memberships : (z j : ℕ) → z < shards w → j < installed w z → members w′ z j ≡ members w z j
   pub orderers : (z j : ℕ) → z < shards w → j < installed w z → orderer w′ z j ≡ orderer w z j
@@ -29,7 +28,6 @@ pub forward-refl : {w : List ℕ} → Forward w w
 forward-refl {w} =
     record {
       long = refl;
-      sequencers = λ z h. refl;
       installs = λ z h. le-refl (installed w z);
       memberships = λ z j h g. refl;
       orderers = λ z j h g. refl;
@@ -41,7 +39,6 @@ pub forward-trans : {u v w : List ℕ} → Forward u v → Forward v w → Forwa
 forward-trans {u} {v} {w} a b =
     record {
       long = b .long ∙ a .long;
-      sequencers = λ z h. b .sequencers z (on z h) ∙ a .sequencers z h;
       installs = λ z h. le-trans (a .installs z h) (b .installs z (on z h));
       memberships = λ z j h g. b .memberships z j (on z h) (lt-of-lt-of-le g (a .installs z h)) ∙ a .memberships z j h g;
       orderers = λ z j h g. b .orderers z j (on z h) (lt-of-lt-of-le g (a .installs z h)) ∙ a .orderers z j h g;

@@ -9,7 +9,7 @@ use lib.ListN.{length, getD, take, drop, length-append, List·getD-append}
 use lib.Seq.{drop-drop, getD-drop, getD-take, drop-append-add}
 use borrow.Author.Tests.{eqb-true}
 use Rattle.model.specs.Tests.{allBelow, concatBelow}
-use Rattle.model.specs.Members.{size}
+use Rattle.types.specs.Members.{size}
 use Rattle.model.specs.Replicas.{replicaWords, fresh, unused}
 use Rattle.model.specs.Layout.{place, headPlace, headWord, sequencer, installed, members, orderer, part}
 use Rattle.model.specs.Setup.{planSequencer, planMembers, planOrderer, initialHead, initialReplica, initialShard, initialState}

@@ -4,7 +4,7 @@ use native.Mathlib.Omega.{arith}
 use mathlib.Core.Path.{_≡_, _∙_}
 use mathlib.Core.List.{List}
 use lib.ListN.{length, length-set}
-use Rattle.model.specs.Members.{size}
+use Rattle.types.specs.Members.{size}
 use Rattle.model.specs.Replicas.{replicaWords, pending}
 use Rattle.model.specs.Layout.{place, headPlace, headWord, installed, part, putHead}
 use Rattle.model.specs.Install.{installNext}

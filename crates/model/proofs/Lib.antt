@@ -5,6 +5,7 @@ pub mod AllOf
 pub mod Concat
 pub mod Checks
 pub mod Orders
+pub mod AdoptAccepted
 pub mod Members
 pub mod Parts
 pub mod Fields
@@ -37,6 +38,9 @@ pub mod OriginsAlone
 pub mod UnchangedChecks
 pub mod UnchangedEffects
 pub mod Unchanged
+-- One shard's block
+pub mod ShardAlike
+pub mod ShardSteps
 -- One shard
 pub mod Prefixes
 pub mod Histories
@@ -52,16 +56,19 @@ pub mod StateViews
 pub mod Forward
 pub mod SeatedReplica
 pub mod Safe
-pub mod Kept
-pub mod KeptPut
-pub mod KeptKinds
-pub mod KeptInstall
+pub mod SafeChange
+pub mod SafePut
+pub mod SafeKinds
+pub mod SafeInstall
+pub mod Appoints
 pub mod SafeStep
 pub mod SafeSetup
 -- Runs
 pub mod RunSteps
+pub mod SetupRuns
 pub mod ReferenceShard
 pub mod Moments
+pub mod Makes
 pub mod OneList
 pub mod OneIssue
 pub mod Sources
@@ -72,7 +79,7 @@ pub mod Appointed
 pub mod Numbers
 pub mod Several
 pub mod RoundTrip
-pub mod Rules
+pub mod StepNumbers
 pub mod LogRoundTrip
 pub mod Results
 -- Longer logs

@@ -6,16 +6,15 @@ use mathlib.Core.Bool.{true, cond}
 use mathlib.Core.List.{List, [], _∷_}
 use lib.ListN.{length, take, drop, length-append, length-drop}
 use lib.Seq.{drop-append-seam, drop-drop, take-add}
-use Rattle.model.specs.declared.Reading.{Reading}
-use Rattle.model.specs.declared.Reading.the-variants.{Step as Read, End, Rejected}
-use Rattle.model.specs.declared.Stop.{Stop}
-use Rattle.model.specs.declared.Stop.the-variants.{Ended, Spent}
-use Rattle.model.specs.declared.step.Step.{Step}
+use Rattle.types.specs.declared.Reading.{Reading}
+use Rattle.types.specs.declared.Reading.the-variants.{Step as Read, End, Rejected}
+use Rattle.types.specs.declared.Stop.{Stop}
+use Rattle.types.specs.declared.Stop.the-variants.{Ended, Spent}
+use Rattle.types.specs.declared.step.Step.{Step}
 use Rattle.model.specs.Log.{Log, readStep, readLog, logAfter, withStep, stopped, isEmpty}
 use Rattle.model.specs.Tests.{allOf}
 use Rattle.model.specs.Writer.{stepBytes}
-use Rattle.model.specs.LogRoundTrip.{logBytes, AllWritable, none, next, wholeLog, EncodedLog}
-use Rattle.model.specs.LogRoundTrip.{Stops, ended, spent, damaged, LogRoundTrip}
+use Rattle.model.specs.LogRoundTrip.{logBytes, AllWritable, none, next, wholeLog, EncodedLog, Stops, ended, spent, damaged, LogRoundTrip}
 use Rattle.model.proofs.AllOf.{all-drop}
 use Rattle.model.proofs.Numbers.{isByte}
 use Rattle.model.proofs.RoundTrip.{Whole, step-read, step-given, none-left}

@@ -3,13 +3,13 @@ use mathlib.Core.Path.{_≡_, refl, _∙_}
 use lib.Count.{ones}
 use Rattle.model.specs.Tests.{allBelow, anyBelow, allOf, concatBelow, contains}
 use Rattle.model.specs.Checks.{firstOf}
-use Rattle.model.specs.Kinds.{kindOf, isKept, isUnknown, usedNumbers}
-use Rattle.model.specs.Entries.{isTake, issue, isIssue, issueShard, issueIndex, issueOrderer, issueMembers, isProperIssue, isEntry}
-use Rattle.model.specs.Entries.{isIssueFor, rivals}
-use Rattle.model.specs.Members.{isHost, hasMember, replicaNumber, isMemberSet, isConfiguration}
+use Rattle.types.specs.Kinds.{kindOf, isKept, isUnknown, usedNumbers}
+use Rattle.model.specs.Entries.{isTake, issue, isIssue, issueShard, issueIndex, issueOrderer, issueMembers, isProperIssue, isEntry, isIssueFor, rivals}
+use Rattle.types.specs.Members.{isHost, hasMember, replicaNumber, isMemberSet, isConfiguration}
 use Rattle.model.specs.Replicas.{readReplica, replicaWords, unused, fresh, isActive, isPending, isImmutable, added, adopted, learned, wedged, pending}
 use Rattle.model.specs.Layout.{headPlace, place, headWord, sequencer, installed, members, orderer, isInstalled, part, replicaAt, putReplica, putHead}
-use Rattle.model.specs.Configuration.{configuration, replicaPlace, replicaOf}
+use Rattle.model.specs.Configuration.{configuration, replicaOf}
+use Rattle.types.specs.ReplicaPlace.{replicaPlace}
 use Rattle.model.specs.Setup.{planSequencer, planMembers, planOrderer, initialHead, initialReplica, initialShard, initialState}
 use Rattle.model.specs.Transcript.{programPlan, programStart}
 use Rattle.model.specs.Add.{ordererPlace, ordererReplica, mayIssue, noRival, addChecks, addEffect}
@@ -19,7 +19,8 @@ use Rattle.model.specs.Wedge.{wedgeChecks, wedgeEffect}
 use Rattle.model.specs.Install.{issuer, issuedAt, isStableIssue, noneBefore, isWedged, isNewestWedged, installChecks, putPending, installNext}
 use Rattle.model.specs.Install.{installEffect}
 use Rattle.model.specs.Inherit.{source, isSource, inheritChecks}
-use Rattle.model.specs.Steps.{shardOf, configurationOf, areNumbers, inRange, kindChecks, kindEffect, effect}
+use Rattle.types.specs.StepNames.{shardOf, configurationOf}
+use Rattle.model.specs.Steps.{areNumbers, inRange, kindChecks, kindEffect, effect}
 use Rattle.model.specs.Numbers.{withLower, readGroups, readNumber, withFirst, afterFirst, readNumbers}
 use Rattle.model.specs.Log.{stepOf, afterNumbers, afterKind, readStep}
 use Rattle.model.specs.Marked.{Case, answers, reads, word, Holds, none, next, takesUpTo, nextIssue, marked, MarkedCases}

@@ -9,7 +9,7 @@ use lib.Dec.{eqb}
 use lib.Pow.{pow-pos, pow-mono, shr-lt, split, mod-pow-add, field, mod-mod-pow}
 use lib.Count.{ones, ones-step, ones-cat}
 use borrow.Author.Tests.{eqb-true, eq-eqb}
-use Rattle.model.specs.Members.{hasMember, replicaNumber}
+use Rattle.types.specs.Members.{hasMember, replicaNumber}
 
 -- the ones of a number, apart at a place
 cut : (m h : ℕ) → ones m ≡ ones (m / 2 ^ h) + ones (m % 2 ^ h)

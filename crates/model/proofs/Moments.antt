@@ -5,12 +5,13 @@ use native.Mathlib.Nat.{add-zero, add-suc}
 use native.Mathlib.Omega.{arith}
 use mathlib.Core.Path.{_≡_, refl, ap, _∙_}
 use mathlib.Core.Bool.{cond}
-use mathlib.Core.List.{List, [], _∷_}
-use Rattle.model.specs.declared.step.Step.{Step}
+use mathlib.Core.List.{List, _∷_}
+use Rattle.types.specs.declared.step.Step.{Step}
 use Rattle.model.specs.Runs.{Moment, stateAt}
 use Rattle.model.specs.Reference.{Reference, atSetup, isAddIn, fed, fedAt, beforeAccepting, acceptAll}
 use Rattle.model.specs.OneList.{shards}
-use Rattle.model.proofs.RunSteps.{Run, Next, stepped, rested, next}
+use Rattle.model.proofs.RunSteps.{Next, stepped, rested, next}
+use Rattle.model.proofs.SetupRuns.{FromSetup}
 use Rattle.model.proofs.ReferenceShard.{accepted-offer}
 use Rattle.model.proofs.Forward.{Forward, forward-refl, forward-trans, forward-shards}
 use Rattle.model.proofs.Safe.{Safe, offersAfter}
@@ -23,7 +24,7 @@ offersAt ms choice n z = beforeAccepting z (choice z) ms n .offered
 -- the same offers, shard by shard
 safe-as : {w : List ℕ} {o o′ : ℕ → List ℕ} → ((z : ℕ) → o′ z ≡ o z) → Safe w o → Safe w o′
 safe-as e x =
-    record { several = x .several; formed = x .formed; inv = λ z h. rw (e z) (x .inv z h); issues = x .issues; wedges = x .wedges }
+    record { several = x .several; formed = x .formed; inv = λ z h. rw (e z) (x .inv z h); wedges = x .wedges }
 
 -- from one moment to the next
 record Onward (ms : List Moment) (choice : ℕ → ℕ → List ℕ) (n : ℕ) (u u′ : List ℕ) : Type 0 where
@@ -53,14 +54,14 @@ module _ (ms : List Moment) (choice : ℕ → ℕ → List ℕ) where
   onward n (rested b f) x =
       record { safe = rw b (safe-as (λ z. offers-rested n z (f z)) x); forward = rw b forward-refl }
 
-module _ {w : List ℕ} {ms : List Moment} (r : Run w ms) (choice : ℕ → ℕ → List ℕ) (s : Safe w (λ z. [])) where
+module _ {w : List ℕ} {ms : List Moment} (r : FromSetup w ms) (choice : ℕ → ℕ → List ℕ) where
   pub safe-at : (n : ℕ) → Safe (stateAt w ms n) (offersAt ms choice n)
   unfolding stateAt offersAt beforeAccepting atSetup
-  safe-at zero = safe-as (λ z. refl) s
-  safe-at (suc n) = onward ms choice n (next r n) (safe-at n) .safe
+  safe-at zero = safe-as (λ z. refl) (r .start)
+  safe-at (suc n) = onward ms choice n (next (r .run) n) (safe-at n) .safe
 
   forward-next : (n : ℕ) → Forward (stateAt w ms n) (stateAt w ms (suc n))
-  forward-next n = onward ms choice n (next r n) (safe-at n) .forward
+  forward-next n = onward ms choice n (next (r .run) n) (safe-at n) .forward
 
   forward-by : (m d : ℕ) → Forward (stateAt w ms m) (stateAt w ms (m + d))
   forward-by m zero = rw (add-zero m) forward-refl

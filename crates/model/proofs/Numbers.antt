@@ -10,8 +10,8 @@ use lib.Dec.{ltb, eqb}
 use lib.ListN.{length, take}
 use lib.Pow.{pow-add, pow-pos}
 use borrow.Author.Tests.{ltb-true, ltb-false, lt-ltb, le-ltb, eqb-false, ne-eqb}
-use Rattle.model.specs.declared.Number.{Number}
-use Rattle.model.specs.declared.Number.the-variants.{Value, Rejected}
+use Rattle.types.specs.declared.Number.{Number}
+use Rattle.types.specs.declared.Number.the-variants.{Value, Rejected}
 use Rattle.model.specs.Numbers.{mostBytes, withLower, readGroups, readNumber, groupsOf, numberBytes}
 use Rattle.model.specs.Tests.{allOf}
 use Rattle.model.proofs.AllOf.{all-head, all-tail}

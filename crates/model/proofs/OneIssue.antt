@@ -6,11 +6,11 @@ use mathlib.Core.Path.{_≡_, refl, sym, _∙_}
 use mathlib.Core.Bool.{true}
 use mathlib.Core.List.{List, []}
 use lib.ListN.{length}
-use Rattle.model.specs.declared.kind.Kind.{Kind}
-use Rattle.model.specs.declared.kind.Kind.the-variants.{Add, Adopt, Learn, Wedge, Install, Inherit, CatchUp, Kept, Unknown}
-use Rattle.model.specs.declared.step.Step.{Step}
-use Rattle.model.specs.Kinds.{kindOf}
-use Rattle.model.specs.Members.{hasMember, replicaNumber}
+use Rattle.types.specs.declared.kind.Kind.{Kind}
+use Rattle.types.specs.declared.kind.Kind.the-variants.{Add, Adopt, Learn, Wedge, Install, Inherit, CatchUp, Kept, Unknown}
+use Rattle.types.specs.declared.step.Step.{Step}
+use Rattle.types.specs.Kinds.{kindOf}
+use Rattle.types.specs.Members.{hasMember, replicaNumber}
 use Rattle.model.specs.Entries.{issueIndex, names}
 use Rattle.model.specs.Layout.{shardsOf, sequencer, members}
 use Rattle.model.specs.Add.{addChecks}
@@ -20,7 +20,8 @@ use Rattle.model.specs.Wedge.{wedgeChecks}
 use Rattle.model.specs.Install.{issuer, issuedAt, isStableIssue, noneBefore, installChecks}
 use Rattle.model.specs.Inherit.{inheritChecks}
 use Rattle.model.specs.CatchUp.{catchUpChecks}
-use Rattle.model.specs.Steps.{shardOf, configurationOf, inRange, kindChecks, stepChecks, rejection}
+use Rattle.types.specs.StepNames.{shardOf, configurationOf}
+use Rattle.model.specs.Steps.{inRange, kindChecks, stepChecks, rejection}
 use Rattle.model.specs.Setup.{afterSetup}
 use Rattle.model.specs.Runs.{played, stateAt, answerAt}
 use Rattle.model.specs.OneList.{shards, Seated}
@@ -31,9 +32,9 @@ use Rattle.model.proofs.WellFormedMembers.{member-proper}
 use Rattle.model.proofs.WellFormedInstall.{stable-tells}
 use Rattle.model.proofs.SeatedReplica.{member-view, seated-view}
 use Rattle.model.proofs.Safe.{Safe}
-use Rattle.model.proofs.Kept.{formed, sequencer-below}
-use Rattle.model.proofs.SafeSetup.{safe-setup}
-use Rattle.model.proofs.RunSteps.{Run, played-run, Answered, answered, silent, answer}
+use Rattle.model.proofs.SafeChange.{formed, sequencer-below}
+use Rattle.model.proofs.RunSteps.{Answered, answered, silent, answer}
+use Rattle.model.proofs.SetupRuns.{FromSetup, from-setup}
 use Rattle.model.proofs.Moments.{offersAt, safe-at}
 
 module _ {w : List ℕ} {offers : ℕ → List ℕ} (x : Safe w offers) where
@@ -94,14 +95,14 @@ unfolding OneIssueClaim
 one-issue w p e calls =
     record {
       single = λ z j h n d. seated-single (safe n) d;
-      never = λ n q. go n (answer run n) q;
+      never = λ n q. go n (answer (run .run) n) q;
     }
   where
-    run : Run (afterSetup w p) (played (afterSetup w p) calls)
-    run = played-run (afterSetup w p) calls
+    run : FromSetup (afterSetup w p) (played (afterSetup w p) calls)
+    run = from-setup w p e calls
 
     safe : (n : ℕ) → Safe (stateAt (afterSetup w p) (played (afterSetup w p) calls) n) (offersAt (played (afterSetup w p) calls) (λ z n. []) n)
-    safe n = safe-at run (λ z n. []) (safe-setup w p e) n
+    safe n = safe-at run (λ z n. []) n
 
     go : (n : ℕ) → Answered (stateAt (afterSetup w p) (played (afterSetup w p) calls) n) (answerAt (played (afterSetup w p) calls) n)
         → answerAt (played (afterSetup w p) calls) n ≡ 22 → ⊥

@@ -11,10 +11,9 @@ use lib.Dec.{leb}
 use borrow.Author.Tests.{leb-true, leb-false}
 use lib.ListN.{length, take, drop}
 use lib.Seq.{take-add}
-use Rattle.model.specs.Members.{replicaNumber}
+use Rattle.types.specs.Members.{replicaNumber}
 use Rattle.model.specs.Replicas.{stablePrefix}
 use Rattle.model.specs.Layout.{members}
-use Rattle.model.specs.Setup.{afterSetup}
 use Rattle.model.specs.StableHistory.{stableHistory}
 use Rattle.model.specs.Prefixes.{Begins, Share}
 use Rattle.model.specs.Runs.{Moment, stateAt}
@@ -25,11 +24,11 @@ use Rattle.model.proofs.Histories.{none-offered}
 use Rattle.model.proofs.Views.{Inv}
 use Rattle.model.proofs.StateViews.{view, stable-begins, stable-once, stable-offered, stable-grows}
 use Rattle.model.proofs.Forward.{Forward, forward-shards}
-use Rattle.model.proofs.RunSteps.{Run, played-run}
+use Rattle.model.proofs.SetupRuns.{FromSetup, from-setup}
 use Rattle.model.proofs.ReferenceShard.{accepted-history, fed-history, may-accept}
 use Rattle.model.proofs.Safe.{Safe}
-use Rattle.model.proofs.SafeSetup.{safe-setup}
 use Rattle.model.proofs.Moments.{offersAt, safe-at, forward-to, shards-at}
+use Rattle.model.proofs.Makes.{issued-at}
 use Rattle.model.proofs.SeatedReplica.{seated-view}
 
 -- a seated host's stable prefix is one of the view
@@ -57,7 +56,7 @@ points-start : (z : ℕ) (choice : ℕ → List ℕ) (ms : List Moment) → poin
 unfolding pointAt acceptAll beforeAccepting atSetup
 points-start z choice ms = refl
 
-module _ {w : List ℕ} {ms : List Moment} (r : Run w ms) (s : Safe w (λ z. [])) where
+module _ {w : List ℕ} {ms : List Moment} (r : FromSetup w ms) where
   -- the stable history of shard z at moment n
   history-at : ℕ → ℕ → List ℕ
   history-at z n = stableHistory (stateAt w ms n) z
@@ -68,16 +67,16 @@ module _ {w : List ℕ} {ms : List Moment} (r : Run w ms) (s : Safe w (λ z. [])
   choices z (suc n) = drop (length (history-at z n)) (history-at z (suc n))
 
   safe-state : (n : ℕ) → Safe (stateAt w ms n) (offersAt ms choices n)
-  safe-state n = safe-at r choices s n
+  safe-state n = safe-at r choices n
 
   forward : (m n : ℕ) → m ≤ n → Forward (stateAt w ms m) (stateAt w ms n)
-  forward m n h = forward-to r choices s m n h
+  forward m n h = forward-to r choices m n h
 
   shard-at : (z n : ℕ) → z < shards w → z < shards (stateAt w ms n)
-  shard-at z n h = rw (shards-at r choices s n) h
+  shard-at z n h = rw (shards-at r choices n) h
 
   shard-of : (z n : ℕ) → z < shards (stateAt w ms n) → z < shards w
-  shard-of z n h = rw (shards-at r choices s n) at h
+  shard-of z n h = rw (shards-at r choices n) at h
 
   inv-at : (z n : ℕ) → z < shards w → Inv (view (stateAt w ms n) z) (offersAt ms choices n z)
   inv-at z n h = safe-state n .inv z (shard-at z n h)
@@ -116,7 +115,7 @@ module _ {w : List ℕ} {ms : List Moment} (r : Run w ms) (s : Safe w (λ z. [])
   -- at setup nothing is stable: nothing was offered
   history-start : (z : ℕ) → z < shards w → history-at z 0 ≡ []
   unfolding history-at stateAt
-  history-start z h = none-offered (stable-offered w z (s .inv z h))
+  history-start z h = none-offered (stable-offered w z (r .start .inv z h))
 
   -- the reference shard's list is the stable history
   lone-before : (z n : ℕ) → z < shards w → acceptAll (choices z n) (beforeAccepting z (choices z) ms n) .history ≡ history-at z n
@@ -191,10 +190,10 @@ module _ {w : List ℕ} {ms : List Moment} (r : Run w ms) (s : Safe w (λ z. [])
         lone = lone-before;
         held = λ z j h m d.
             held-up-to z m (stableOf (stateAt w ms m) z j h) (shard-of z m (d .shard)) (prefix-in-history m d);
-        issued = λ z j n h l. safe-state n .issues z j (shard-at z n h) l .first;
+        issued = issued-at r;
       }
 
 -- the third demand
 pub one-list : OneListClaim
 unfolding OneListClaim
-one-list w p e calls = run-one-list (played-run (afterSetup w p) calls) (safe-setup w p e)
+one-list w p e calls = run-one-list (from-setup w p e calls)

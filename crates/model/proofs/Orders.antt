@@ -2,9 +2,9 @@
 use Prim.Native.Nat.{ℕ}
 use mathlib.Core.Path.{_≡_, refl}
 use mathlib.Core.List.{List}
-use Rattle.model.specs.declared.kind.Kind.{Kind}
-use Rattle.model.specs.declared.kind.Kind.the-variants.{Add, Adopt, Learn, Wedge, Install, Inherit, CatchUp, Kept, Unknown}
-use Rattle.model.specs.Kinds.{kindOf}
+use Rattle.types.specs.declared.kind.Kind.{Kind}
+use Rattle.types.specs.declared.kind.Kind.the-variants.{Add, Adopt, Learn, Wedge, Install, Inherit, CatchUp, Kept, Unknown}
+use Rattle.types.specs.Kinds.{kindOf}
 use Rattle.model.specs.Add.{addChecks}
 use Rattle.model.specs.Adopt.{adoptChecks}
 use Rattle.model.specs.Learn.{learnChecks}
@@ -12,7 +12,8 @@ use Rattle.model.specs.Wedge.{wedgeChecks}
 use Rattle.model.specs.Install.{installChecks}
 use Rattle.model.specs.Inherit.{inheritChecks}
 use Rattle.model.specs.CatchUp.{catchUpChecks}
-use Rattle.model.specs.Steps.{shardOf, configurationOf, kindChecks, stepChecks}
+use Rattle.types.specs.StepNames.{shardOf, configurationOf}
+use Rattle.model.specs.Steps.{kindChecks, stepChecks}
 use Rattle.model.specs.Orders.{checkNumbers, kindOrder, Orders}
 
 kind-order : (k : Kind) (w : List ℕ) (z j c d : ℕ) → checkNumbers (kindChecks k w z j c d) ≡ kindOrder k

@@ -6,7 +6,7 @@ use mathlib.Core.Bool.{Bool, true, false, cond, not, _||_, or-true}
 use mathlib.Core.List.{List}
 use lib.Dec.{leb, eqb}
 use borrow.Author.Tests.{leb-true, le-leb, eqb-true, eqb-false, ne-eqb, not-true}
-use Rattle.model.specs.Members.{hasMember, replicaNumber}
+use Rattle.types.specs.Members.{hasMember, replicaNumber}
 use Rattle.model.specs.Replicas.{Replica, isPending, isActive, isImmutable, pending, added, adopted, learned, wedged, inherited, caughtUp}
 use Rattle.model.specs.Layout.{place, members, replicaAt}
 use Rattle.model.specs.Configuration.{replicaOf}

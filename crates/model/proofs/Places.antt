@@ -6,10 +6,11 @@ use mathlib.Core.Path.{_≡_, sym}
 use mathlib.Core.List.{List}
 use lib.ListN.{length}
 use lib.Seq.{getD-set-same, getD-set-other}
-use Rattle.model.specs.Members.{replicaNumber}
+use Rattle.types.specs.Members.{replicaNumber}
 use Rattle.model.specs.Replicas.{Replica}
 use Rattle.model.specs.Layout.{headPlace, place, headWord, sequencer, installed, members, orderer, putReplica, putHead}
-use Rattle.model.specs.Configuration.{configuration, replicaPlace}
+use Rattle.model.specs.Configuration.{configuration}
+use Rattle.types.specs.ReplicaPlace.{replicaPlace}
 use Rattle.model.proofs.Parts.{Apart, before, behind, Outside, below, above, word-put-other}
 
 -- ---- places

@@ -6,7 +6,7 @@ use lib.Count.{ones}
 use lib.ListN.{length}
 use Rattle.model.specs.Tests.{allBelow}
 use Rattle.model.specs.Checks.{firstOf}
-use Rattle.model.specs.Members.{isHost, hasMember, isMemberSet, isConfiguration}
+use Rattle.types.specs.Members.{isHost, hasMember, isMemberSet, isConfiguration}
 use Rattle.model.specs.Layout.{shardsOf, isStateLength}
 use Rattle.model.specs.WellFormed.{isSequencer, allDiffer}
 use Rattle.model.specs.Setup.{planSequencer, planMembers, planOrderer, isPlannedShard, isPlan, setupRejection, initialState, afterSetup}

@@ -6,12 +6,12 @@ use mathlib.Core.List.{List, [], _∷_, _++_}
 use lib.Dec.{ltb, eqb}
 use lib.ListN.{drop}
 use lib.Seq.{drop-append-le}
-use Rattle.model.specs.declared.Number.{Number}
-use Rattle.model.specs.declared.Number.the-variants.{Value, Rejected as NotNumber}
-use Rattle.model.specs.declared.Reading.{Reading}
-use Rattle.model.specs.declared.Reading.the-variants.{Step as Read, End, Rejected}
-use Rattle.model.specs.declared.step.Step.{Step}
-use Rattle.model.specs.Kinds.{kindOf, isKept, isUnknown, usedNumbers}
+use Rattle.types.specs.declared.Number.{Number}
+use Rattle.types.specs.declared.Number.the-variants.{Value, Rejected as NotNumber}
+use Rattle.types.specs.declared.Reading.{Reading}
+use Rattle.types.specs.declared.Reading.the-variants.{Step as Read, End, Rejected}
+use Rattle.types.specs.declared.step.Step.{Step}
+use Rattle.types.specs.Kinds.{kindOf, isKept, isUnknown, usedNumbers}
 use Rattle.model.specs.Numbers.{mostBytes, Numbers, values, rejected, withLower, readGroups, readNumber, withFirst, afterFirst, readNumbers}
 use Rattle.model.specs.Log.{afterNumbers, afterKind, readStep, withStep, stopped, logAfter, readLog}
 use Rattle.model.proofs.Numbers.{number-within}

@@ -1,61 +1,24 @@
 -- The numbers and values of answers that are enums.
-use Prim.Native.Nat.{ℕ, zero, suc, _+_, _≤_, _<_}
-use native.Mathlib.Decide.{decLt}
+use Prim.Native.Nat.{ℕ, _+_, _≤_}
 use native.Mathlib.Omega.{arith}
 use mathlib.Core.Path.{_≡_, refl, sym, ap, _∙_}
 use mathlib.Core.Bool.{Bool, true, false, cond}
 use mathlib.Core.List.{List}
-use lib.Dec.{leb, eqb}
+use lib.Dec.{eqb}
 use lib.ListN.{length, drop}
-use borrow.Author.Tests.{eqb-true, leb-false, le-leb, lt-leb, lt-ltb, ne-eqb}
-use Rattle.model.specs.declared.kind.Kind.{Kind}
-use Rattle.model.specs.declared.step.Step.{Step}
-use Rattle.model.specs.declared.Reading.{Reading}
-use Rattle.model.specs.declared.Reading.the-variants.{Step as Read, End, Rejected as NotRead}
-use Rattle.model.specs.declared.Writing.{Writing}
-use Rattle.model.specs.declared.Writing.the-variants.{Bytes, Rejected as NotWritten}
-use Rattle.model.specs.declared.Report.{Report}
-use Rattle.model.specs.Kinds.{kindOf, isKept, isUnknown, kindNumber, kindRejection, numberNamed, rejectionNamed}
+use borrow.Author.Tests.{eqb-true, ne-eqb}
+use Rattle.types.specs.declared.step.Step.{Step}
+use Rattle.types.specs.declared.Reading.{Reading}
+use Rattle.types.specs.declared.Reading.the-variants.{Step as Read, End, Rejected as NotRead}
+use Rattle.types.specs.declared.Writing.{Writing}
+use Rattle.types.specs.declared.Writing.the-variants.{Bytes, Rejected as NotWritten}
+use Rattle.types.specs.declared.Report.{Report}
 use Rattle.model.specs.Log.{readStep, readAt, from}
 use Rattle.model.specs.Writer.{stepBytes, writeRejection, writing, afterWriting}
 use Rattle.model.specs.Replay.{rejectedIn, replayRejection, replayed, report}
 use Rattle.model.specs.Results.{readingNumber, readingStep, readingNext, readRejection, stepRead, bytesRead, nextRead}
 use Rattle.model.specs.Results.{writingNumber, writingCount, countBeside, stopNumber, stopCode, replayNumber, replayCode, replayBytes}
-use Rattle.model.proofs.RoundTrip.{late-kind, step-least}
-
--- ---- the kind
-
--- the kind of n has the number and the rejection that n names
-abbrev Named : ℕ → Type 0
-Named n = (kindNumber (kindOf n) ≡ numberNamed n) × (kindRejection (kindOf n) ≡ rejectionNamed n)
-
-early-named : (n : ℕ) → n < 8 → Named n
-unfolding kindOf kindNumber kindRejection isKept isUnknown numberNamed rejectionNamed
-early-named zero h = (refl, refl)
-early-named (suc zero) h = (refl, refl)
-early-named (suc (suc zero)) h = (refl, refl)
-early-named (suc (suc (suc zero))) h = (refl, refl)
-early-named (suc (suc (suc (suc zero)))) h = (refl, refl)
-early-named (suc (suc (suc (suc (suc zero))))) h = (refl, refl)
-early-named (suc (suc (suc (suc (suc (suc zero)))))) h = (refl, refl)
-early-named (suc (suc (suc (suc (suc (suc (suc zero))))))) h = (refl, refl)
-early-named (suc (suc (suc (suc (suc (suc (suc (suc n)))))))) h = absurd (omega arith)
-
-late-named : (n : ℕ) → 8 ≤ n → Named n
-unfolding kindNumber kindRejection isKept isUnknown numberNamed rejectionNamed
-late-named n h = go (leb n 31) refl
-  where
-    go : (t : Bool) → leb n 31 ≡ t → Named n
-    go true q = simp (late-kind n h, q, le-leb 1 n (omega arith), le-leb 8 n h, lt-leb n 7 h) (refl, refl)
-    go false q =
-        simp (late-kind n h, q, le-leb 1 n (omega arith), le-leb 8 n h, lt-leb n 7 h, ne-eqb n 0 (λ e. omega arith), lt-ltb 31 n (leb-false n 31 q))
-        (refl, refl)
-
-pub names-kind : {k : Kind} (n : ℕ) → k ≡ kindOf n
-    → (kindNumber k ≡ numberNamed n) × ((kindRejection k ≡ rejectionNamed n) × (k ≡ kindOf n))
-names-kind n e =
-    let m : Named n = elim (decLt n 8) [ yes l ↦ early-named n l | no l ↦ late-named n (omega arith) ] in
-    (ap kindNumber e ∙ m .0, (ap kindRejection e ∙ m .1, e))
+use Rattle.model.proofs.RoundTrip.{step-least}
 
 -- ---- the reader
 

@@ -1,6 +1,5 @@
 -- Steps read back to what was written, and their bytes are the only ones that read to them (`round-trip`). Assumes nothing.
 use Prim.Native.Nat.{ℕ, _+_, _≤_, _<_}
-use native.Mathlib.Decide.{decLt}
 use native.Mathlib.Omega.{arith}
 use mathlib.Core.Logic.{_⊎_, inl, inr, ⊎-elim}
 use mathlib.Core.Path.{_≡_, refl, sym, ap}
@@ -9,15 +8,14 @@ use mathlib.Core.List.{List, [], _∷_, _++_, append-assoc}
 use lib.Dec.{leb, eqb}
 use lib.ListN.{length, take, drop, getD, length-append, length-drop, List·getD-eq-default}
 use lib.Seq.{drop-append-seam, take-add}
-use borrow.Author.Tests.{eqb-true, le-leb, ne-eqb}
-use Rattle.model.specs.declared.Number.{Number}
-use Rattle.model.specs.declared.Number.the-variants.{Value, Rejected as NotNumber}
-use Rattle.model.specs.declared.Reading.{Reading}
-use Rattle.model.specs.declared.Reading.the-variants.{Step as Read, End, Rejected}
-use Rattle.model.specs.declared.kind.Kind.{Kind}
-use Rattle.model.specs.declared.kind.Kind.the-variants.{Add, Adopt, Learn, Wedge, Install, Inherit, CatchUp, Kept, Unknown}
-use Rattle.model.specs.declared.step.Step.{Step}
-use Rattle.model.specs.Kinds.{kindOf, isKept, isUnknown, usedNumbers}
+use borrow.Author.Tests.{eqb-true}
+use Rattle.types.proofs.KindNumbers.{used-cases, kind-below}
+use Rattle.types.specs.declared.Number.{Number}
+use Rattle.types.specs.declared.Number.the-variants.{Value, Rejected as NotNumber}
+use Rattle.types.specs.declared.Reading.{Reading}
+use Rattle.types.specs.declared.Reading.the-variants.{Step as Read, End, Rejected}
+use Rattle.types.specs.declared.step.Step.{Step}
+use Rattle.types.specs.Kinds.{kindOf, isKept, isUnknown, usedNumbers}
 use Rattle.model.specs.Log.{stepOf, afterNumbers, afterKind, readStep}
 use Rattle.model.specs.Numbers.{Numbers, values, rejected, readNumber, readNumbers, numberBytes, numbersBytes}
 use Rattle.model.specs.RoundTrip.{Writable, RoundTrip}
@@ -26,45 +24,6 @@ use Rattle.model.specs.Writer.{isWritable, areWritable, stepBytes}
 use Rattle.model.proofs.AllOf.{all-take, all-drop, all-getD}
 use Rattle.model.proofs.Numbers.{isByte, number-read, number-bytes-least, number-within, number-written}
 use Rattle.model.proofs.Several.{Several, GivenNumbers, numbers-read, numbers-result}
-
--- ---- kinds
-
--- a kind that the writer accepts uses three numbers or four
-pub used-cases : (k : Kind) → isKept k ≡ false → isUnknown k ≡ false → (usedNumbers k ≡ 3) ⊎ (usedNumbers k ≡ 4)
-unfolding isKept isUnknown usedNumbers
-used-cases Add e f = inl refl
-used-cases Adopt e f = inl refl
-used-cases Learn e f = inr refl
-used-cases Wedge e f = inl refl
-used-cases Install e f = inr refl
-used-cases Inherit e f = inr refl
-used-cases CatchUp e f = inr refl
-used-cases Kept e f = absurd (true≢false e)
-used-cases Unknown e f = absurd (true≢false f)
-
--- 8 and above name no step
-pub late-kind : (n : ℕ) → 8 ≤ n → kindOf n ≡ cond (leb n 31) Kept Unknown
-unfolding kindOf
-late-kind n h =
-    simp (
-      ne-eqb n 1 (λ e. omega arith),
-      ne-eqb n 2 (λ e. omega arith),
-      ne-eqb n 3 (λ e. omega arith),
-      ne-eqb n 4 (λ e. omega arith),
-      ne-eqb n 5 (λ e. omega arith),
-      ne-eqb n 6 (λ e. omega arith),
-      ne-eqb n 7 (λ e. omega arith),
-      le-leb 8 n h,
-    )
-
--- a kind that the writer accepts has a number of one byte
-pub kind-below : (n : ℕ) → isKept (kindOf n) ≡ false → isUnknown (kindOf n) ≡ false → n < 8
-unfolding isKept isUnknown
-kind-below n e f = elim (decLt n 8) [ yes l ↦ l | no l ↦ late (leb n 31) (late-kind n (omega arith)) ]
-  where
-    late : (t : Bool) → kindOf n ≡ cond t Kept Unknown → n < 8
-    late true g = absurd (true≢false (rw g at e))
-    late false g = absurd (true≢false (rw g at f))
 
 -- ---- what is written is read
 

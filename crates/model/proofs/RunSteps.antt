@@ -6,8 +6,9 @@ use mathlib.Core.Bool.{Bool, true, false, cond, _&&_, and-false}
 use mathlib.Core.List.{List, [], _∷_, _++_}
 use lib.Dec.{eqb}
 use borrow.Author.Tests.{eqb-true}
-use Rattle.model.specs.declared.step.Step.{Step}
-use Rattle.model.specs.Steps.{shardOf, rejection, effect, after}
+use Rattle.types.specs.declared.step.Step.{Step}
+use Rattle.types.specs.StepNames.{shardOf}
+use Rattle.model.specs.Steps.{rejection, effect, after}
 use Rattle.model.specs.Replay.{afterAll, afterReplay}
 use Rattle.model.specs.Runs.{Call, single, replay, triedBy, leftBy, Moment, moments, played, stateAt, answerAt}
 use Rattle.model.specs.Reference.{Reference, isAddIn, fed, fedAt}

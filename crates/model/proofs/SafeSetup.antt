@@ -8,7 +8,7 @@ use mathlib.Core.List.{List, []}
 use lib.Dec.{ltb, lit<}
 use borrow.Author.Tests.{ltb-true}
 use lib.ListN.{length}
-use Rattle.model.specs.Members.{size}
+use Rattle.types.specs.Members.{size}
 use Rattle.model.specs.Replicas.{Replica, stablePrefix, fresh, unused}
 use Rattle.model.specs.Layout.{shardsOf, installed, replicaAt}
 use Rattle.model.specs.Setup.{setupRejection, afterSetup, initialReplica, initialState, planMembers}
@@ -95,13 +95,14 @@ initial-safe Z p f =
       several = rw (f .shards) (f .several);
       formed = is-well-formed f;
       inv = λ z h. new-inv (initial-view Z p f z (rw (f .shards) at h));
-      issues = λ z j h l. absurd (first-alone z j h l);
-      wedges = λ z j h l. absurd (first-alone z j h l);
+      wedges = λ z j h l. let g : suc j < 1 = rw (initial-installed Z p (rw (f .shards) at h)) at l in absurd (omega arith);
     }
-  where
-    -- no shard has a second configuration yet
-    first-alone : (z j : ℕ) → z < shards (initialState Z p) → suc j < installed (initialState Z p) z → ⊥
-    first-alone z j h l = let g : suc j < 1 = rw (initial-installed Z p (rw (f .shards) at h)) at l in omega arith
+
+-- every shard has one configuration
+pub setup-installed : (w p : List ℕ) → setupRejection w p ≡ 0 → (z : ℕ) → z < shards (afterSetup w p) → installed (afterSetup w p) z ≡ 1
+unfolding shards
+setup-installed w p e z =
+    rw (after-setup w p e) (λ h. initial-installed (shardsOf (length w)) p (rw (setup-formed w p e .shards) at h))
 
 -- no replica has an origin
 new-origin : {j : ℕ} {r : Replica} → New j r → r .origin ≡ 0

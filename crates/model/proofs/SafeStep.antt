@@ -6,12 +6,14 @@ use mathlib.Core.Bool.{Bool, true, false, cond, _&&_}
 use mathlib.Core.List.{List, _∷_}
 use lib.Dec.{leb, eqb}
 use borrow.Author.Tests.{eq-eqb}
-use Rattle.model.specs.declared.kind.Kind.{Kind}
-use Rattle.model.specs.declared.kind.Kind.the-variants.{Add, Adopt, Learn, Wedge, Install, Inherit, CatchUp, Kept as KeptKind, Unknown}
-use Rattle.model.specs.declared.step.Step.{Step}
+use Rattle.types.specs.declared.kind.Kind.{Kind}
+use Rattle.types.specs.declared.kind.Kind.the-variants.{Add, Adopt, Learn, Wedge, Install, Inherit, CatchUp, Kept, Unknown}
+use Rattle.types.specs.declared.step.Step.{Step}
 use Rattle.model.specs.Tests.{contains}
-use Rattle.model.specs.Kinds.{kindOf}
-use Rattle.model.specs.Steps.{shardOf, kindChecks, kindEffect, rejection, effect}
+use Rattle.types.specs.Kinds.{kindOf}
+use Rattle.model.specs.Layout.{sequencer, installed}
+use Rattle.types.specs.StepNames.{shardOf}
+use Rattle.model.specs.Steps.{kindChecks, kindEffect, rejection, effect}
 use Rattle.model.specs.Reference.{isAddIn}
 use Rattle.model.specs.OneList.{shards}
 use Rattle.model.proofs.Checks.{Accepted, accepted}
@@ -19,11 +21,11 @@ use Rattle.model.proofs.Histories.{Wider, wider-refl, wider-cons}
 use Rattle.model.proofs.WellFormed.{is-well-formed}
 use Rattle.model.proofs.WellFormedSteps.{effect-formed}
 use Rattle.model.proofs.Forward.{Forward, forward-refl, forward-shards}
-use Rattle.model.proofs.Safe.{Safe, offersAfter}
+use Rattle.model.proofs.Safe.{Safe, offersAfter, Installs}
 use Rattle.model.proofs.StateViews.{view}
-use Rattle.model.proofs.Kept.{From, stood, Kept}
-use Rattle.model.proofs.KeptKinds.{kept-add, kept-adopt, kept-learn, kept-wedge, kept-inherit, kept-catch-up}
-use Rattle.model.proofs.KeptInstall.{kept-install}
+use Rattle.model.proofs.SafeChange.{From, stood, Count, as-many, SafeChange}
+use Rattle.model.proofs.SafeKinds.{kept-add, kept-adopt, kept-learn, kept-wedge, kept-inherit, kept-catch-up}
+use Rattle.model.proofs.SafeInstall.{kept-install}
 
 -- the kind that offers
 isAdd : Kind → Bool
@@ -34,7 +36,7 @@ isAdd Wedge = false
 isAdd Install = false
 isAdd Inherit = false
 isAdd CatchUp = false
-isAdd KeptKind = false
+isAdd Kept = false
 isAdd Unknown = false
 
 neither : (b : Bool) (k l : Kind) → isAdd k ≡ false → isAdd l ≡ false → isAdd (cond b k l) ≡ false
@@ -47,7 +49,7 @@ unfolding kindOf isAdd
 kind-is-add n = go (eqb n 1) refl
   where
     rest : isAdd (cond (eqb n 2) Adopt (cond (eqb n 3) Learn (cond (eqb n 4) Wedge (cond (eqb n 5) Install (cond (eqb n 6) Inherit
-        (cond (eqb n 7) CatchUp (cond (leb 8 n && leb n 31) KeptKind Unknown))))))) ≡ false
+        (cond (eqb n 7) CatchUp (cond (leb 8 n && leb n 31) Kept Unknown))))))) ≡ false
     rest =
         neither (eqb n 2) _ _ refl
         (neither (eqb n 3) _ _ refl
@@ -77,16 +79,32 @@ module _ (s : Step) (offers : ℕ → List ℕ) where
   unfolding offersAfter isAddIn contains
   add-offers e = rw (kind-is-add (s .kind), e, eq-eqb (shardOf s) (shardOf s) refl, eq-eqb (s .c) (s .c) refl)
 
-kept-as : {w w′ : List ℕ} {offers o o′ : ℕ → List ℕ} → ((z : ℕ) → o′ z ≡ o z) → Kept w offers w′ o → Kept w offers w′ o′
-kept-as e k = record { forward = k .forward; inv = λ z h. rw (e z) (k .inv z h); issues = k .issues; wedges = k .wedges; origins = k .origins }
+kept-as : {gets : ℕ → Type 0} {w w′ : List ℕ} {offers o o′ : ℕ → List ℕ} → ((z : ℕ) → o′ z ≡ o z) → SafeChange gets w offers w′ o → SafeChange gets w offers w′ o′
+kept-as e k =
+    record {
+      forward = k .forward;
+      inv = λ z h. rw (e z) (k .inv z h);
+      wedges = k .wedges;
+      origins = k .origins;
+      counts = k .counts;
+      sequencers = k .sequencers;
+    }
 
 -- a state that nothing changes
-kept-same : {w : List ℕ} {offers : ℕ → List ℕ} → Safe w offers → Kept w offers w offers
-kept-same x = record { forward = forward-refl; inv = x .inv; issues = x .issues; wedges = x .wedges; origins = λ z j k g h e. stood e }
+kept-same : {gets : ℕ → Type 0} {w : List ℕ} {offers : ℕ → List ℕ} → Safe w offers → SafeChange gets w offers w offers
+kept-same x =
+    record {
+      forward = forward-refl;
+      inv = x .inv;
+      wedges = x .wedges;
+      origins = λ z j k g h e. stood e;
+      counts = λ z h. as-many refl;
+      sequencers = λ z h. refl;
+    }
 
 -- by kinds
 kept-step : {w : List ℕ} {offers : ℕ → List ℕ} → Safe w offers → (s : Step) → Accepted w s → (k : Kind) → kindOf (s .kind) ≡ k
-    → Kept w offers (effect w s) (offersAfter s offers)
+    → SafeChange (Installs s) w offers (effect w s) (offersAfter s offers)
 unfolding effect kindEffect kindChecks shards isAdd
 kept-step {w} {offers} x s a Add e =
     rw e
@@ -98,23 +116,27 @@ kept-step {w} {offers} x s a Learn e =
 kept-step {w} {offers} x s a Wedge e =
     rw e (kept-as (offers-same s offers (rw e)) (kept-wedge x (a .range .shard) (a .range .configuration) (s .c) (rw e at (a .checks))))
 kept-step {w} {offers} x s a Install e =
-    rw e (kept-as (offers-same s offers (rw e)) (kept-install x (a .range .shard) (a .range .configuration) (s .c) (s .d) (rw e at (a .checks))))
+    rw e
+    (kept-as (offers-same s offers (rw e))
+    (kept-install x (a .range .shard) (a .range .configuration) (s .c) (s .d) (rw e at (a .checks)) (record { kind = e; shard = refl })))
 kept-step {w} {offers} x s a Inherit e =
     rw e (kept-as (offers-same s offers (rw e)) (kept-inherit x (a .range .shard) (a .range .configuration) (s .c) (s .d) (rw e at (a .checks))))
 kept-step {w} {offers} x s a CatchUp e =
     rw e (kept-as (offers-same s offers (rw e)) (kept-catch-up x (a .range .shard) (a .range .configuration) (s .c) (s .d) (rw e at (a .checks))))
-kept-step {w} {offers} x s a KeptKind e =
+kept-step {w} {offers} x s a Kept e =
     rw e (kept-as (offers-same s offers (rw e)) (kept-same x))
 kept-step {w} {offers} x s a Unknown e =
     rw e (kept-as (offers-same s offers (rw e)) (kept-same x))
 
-pub record SafeStep (w w′ : List ℕ) (offers′ : ℕ → List ℕ) : Type 0 where
+pub record SafeStep (w : List ℕ) (s : Step) (w′ : List ℕ) (offers′ : ℕ → List ℕ) : Type 0 where
   pub safe : Safe w′ offers′
   pub forward : Forward w w′
   pub origins : (z j k g : ℕ) → z < shards w → view w′ z j k .origin ≡ suc g → From w z j k (view w′ z j k) g
+  pub counts : (z : ℕ) → z < shards w → Count (Installs s z) (installed w z) (installed w′ z)
+  pub sequencers : (z : ℕ) → z < shards w → sequencer w′ z ≡ sequencer w z
 
 pub safe-step : {w : List ℕ} {offers : ℕ → List ℕ} → Safe w offers → (s : Step) → rejection w s ≡ 0
-    → SafeStep w (effect w s) (offersAfter s offers)
+    → SafeStep w s (effect w s) (offersAfter s offers)
 unfolding shards
 safe-step {w} {offers} x s e =
     let a = accepted w s e in
@@ -126,9 +148,10 @@ safe-step {w} {offers} x s e =
             several = rw f (x .several);
             formed = is-well-formed (effect-formed w s a);
             inv = λ z h. k .inv z (rw f at h);
-            issues = λ z j h l. k .issues z j (rw f at h) l;
             wedges = λ z j h l. k .wedges z j (rw f at h) l;
           };
       forward = k .forward;
       origins = k .origins;
+      counts = k .counts;
+      sequencers = k .sequencers;
     }

@@ -5,7 +5,7 @@ use native.Mathlib.Nat.{lt-of-lt-of-le}
 use mathlib.Core.Path.{_≡_, refl, sym, ap, _∙_}
 use mathlib.Core.Bool.{true}
 use mathlib.Core.List.{List}
-use Rattle.model.specs.Members.{hasMember, replicaNumber}
+use Rattle.types.specs.Members.{hasMember, replicaNumber}
 use Rattle.model.specs.Layout.{members, replicaAt}
 use Rattle.model.specs.Configuration.{configuration, replicaOf}
 use Rattle.model.specs.WellFormed.{wellFormed}

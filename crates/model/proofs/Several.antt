@@ -7,8 +7,8 @@ use mathlib.Core.List.{List, [], _∷_, _++_, append-assoc}
 use lib.ListN.{length, take, drop, length-append, length-drop}
 use lib.Seq.{drop-append-seam, take-add}
 use borrow.Author.Tests.{ltb-true, lt-ltb}
-use Rattle.model.specs.declared.Number.{Number}
-use Rattle.model.specs.declared.Number.the-variants.{Value, Rejected as NotNumber}
+use Rattle.types.specs.declared.Number.{Number}
+use Rattle.types.specs.declared.Number.the-variants.{Value, Rejected as NotNumber}
 use Rattle.model.specs.Numbers.{Numbers, values, rejected, readNumber, readNumbers, withFirst, afterFirst, numberBytes, numbersBytes}
 use Rattle.model.specs.Tests.{allOf}
 use Rattle.model.specs.Writer.{isWritable}

@@ -7,13 +7,12 @@ use mathlib.Core.Path.{_≡_, refl, sym, ap, _∙_}
 use mathlib.Core.Bool.{Bool, true, false}
 use mathlib.Core.List.{List, []}
 use borrow.Author.Tests.{ltb-true, eq-eqb}
-use Rattle.model.specs.Members.{hasMember, replicaNumber}
+use Rattle.types.specs.Members.{hasMember, replicaNumber}
 use Rattle.model.specs.Replicas.{Replica, unused, isPending, isImmutable, inherited, caughtUp}
 use Rattle.model.specs.Layout.{installed, isInstalled, members}
 use Rattle.model.specs.Configuration.{replicaIn}
 use Rattle.model.specs.Inherit.{source}
 use Rattle.model.specs.Origins.{isOriginOf}
-use Rattle.model.specs.Setup.{afterSetup}
 use Rattle.model.specs.Runs.{Moment, stateAt}
 use Rattle.model.specs.OneList.{shards, Seated}
 use Rattle.model.specs.Sources.{Began, inherits as inheritsFrom, catchesUp as catchesUpWith, NamesSource, SourcesClaim}
@@ -23,11 +22,11 @@ use Rattle.model.proofs.Origins.{named, has-source}
 use Rattle.model.proofs.WellFormedMembers.{head-open, size-none, member-origin}
 use Rattle.model.proofs.Forward.{Forward}
 use Rattle.model.proofs.Safe.{Safe}
-use Rattle.model.proofs.Kept.{Source, From, stood, inherits, catchesUp, formed}
-use Rattle.model.proofs.KeptKinds.{in-use}
+use Rattle.model.proofs.SafeChange.{Source, From, stood, inherits, catchesUp, formed}
+use Rattle.model.proofs.SafeKinds.{in-use}
 use Rattle.model.proofs.SafeStep.{safe-step}
-use Rattle.model.proofs.SafeSetup.{safe-setup, setup-origin}
-use Rattle.model.proofs.RunSteps.{Run, played-run, Next, stepped, rested, next}
+use Rattle.model.proofs.RunSteps.{Next, stepped, rested, next}
+use Rattle.model.proofs.SetupRuns.{FromSetup, from-setup}
 use Rattle.model.proofs.Moments.{offersAt, safe-at, forward-to, shards-at}
 
 -- a source's replica, as the view shows it
@@ -64,26 +63,26 @@ record BeganIn (w : List ℕ) (ms : List Moment) (z j k g n : ℕ) : Type 0 wher
   next-to : j ≡ suc before
   how : BeganFrom w ms z j before g k n
 
-module _ {w : List ℕ} {ms : List Moment} (r : Run w ms) (s : Safe w (λ z. [])) (none : (z j k : ℕ) → z < shards w → view w z j k .origin ≡ 0) where
+module _ {w : List ℕ} {ms : List Moment} (r : FromSetup w ms) where
   at : ℕ → List ℕ
   at n = stateAt w ms n
 
   safe : (n : ℕ) → Safe (at n) (offersAt ms (λ z n. []) n)
   unfolding at
-  safe n = safe-at r (λ z n. []) s n
+  safe n = safe-at r (λ z n. []) n
 
   forward : (m n : ℕ) → m ≤ n → Forward (at m) (at n)
   unfolding at
-  forward m n h = forward-to r (λ z n. []) s m n h
+  forward m n h = forward-to r (λ z n. []) m n h
 
   shard-at : (n : ℕ) {z : ℕ} → z < shards w → z < shards (at n)
   unfolding at
-  shard-at n h = rw (shards-at r (λ z n. []) s n) h
+  shard-at n h = rw (shards-at r (λ z n. []) n) h
 
   -- where an origin at the next moment is from
   from-next : (n z j k g : ℕ) → z < shards w → view (at (suc n)) z j k .origin ≡ suc g → From (at n) z j k (view (at (suc n)) z j k) g
   unfolding at
-  from-next n z j k g h = go (next r n)
+  from-next n z j k g h = go (next (r .run) n)
     where
       go : {u : List ℕ} → Next ms n (stateAt w ms n) u → view u z j k .origin ≡ suc g → From (stateAt w ms n) z j k (view u z j k) g
       go (stepped t a b f) = rw b (safe-step (safe n) t a .origins z j k g (shard-at n h))
@@ -105,7 +104,7 @@ module _ {w : List ℕ} {ms : List Moment} (r : Run w ms) (s : Safe w (λ z. [])
 
   began-in : (n z j k g : ℕ) → z < shards w → view (at n) z j k .origin ≡ suc g → BeganIn w ms z j k g n
   unfolding at shown stateAt caughtUp
-  began-in zero z j k g h e = absurd (omega (arith, e, none z j k h))
+  began-in zero z j k g h e = absurd (omega (arith, e, r .noOrigin z j k h))
   began-in (suc n) z j k g h e = go (from-next n z j k g h e) (began-in n z j)
     where
       go : From (at n) z j k (view (at (suc n)) z j k) g
@@ -190,7 +189,7 @@ module _ {w : List ℕ} {ms : List Moment} (r : Run w ms) (s : Safe w (λ z. [])
   module _ (z j h g n : ℕ) (d : Seated (at n) z j h) (o : replicaIn (at n) z j h .origin ≡ suc g) where
     below : z < shards w
     unfolding at
-    below = rw (sym (shards-at r (λ z n. []) s n)) (d .shard)
+    below = rw (sym (shards-at r (λ z n. []) n)) (d .shard)
 
     began-at : BeganIn w ms z j (replicaNumber (members (at n) z j) h) g n
     began-at =
@@ -224,10 +223,5 @@ module _ {w : List ℕ} {ms : List Moment} (r : Run w ms) (s : Safe w (λ z. [])
 pub sources : SourcesClaim
 unfolding SourcesClaim at
 sources w p e calls =
-    let run = played-run (afterSetup w p) calls in
-    let safe = safe-setup w p e in
-    record {
-      named = seated-named run safe (setup-origin w p e);
-      immutable = source-immutable run safe (setup-origin w p e);
-      began = seated-began run safe (setup-origin w p e);
-    }
+    let run = from-setup w p e calls in
+    record { named = seated-named run; immutable = source-immutable run; began = seated-began run }

@@ -6,12 +6,12 @@ use mathlib.Core.Path.{_≡_, refl, ap, subst}
 use mathlib.Core.Bool.{Bool, true, false, cond}
 use mathlib.Core.List.{List}
 use lib.ListN.{length}
-use Rattle.model.specs.declared.kind.Kind.{Kind}
-use Rattle.model.specs.declared.kind.Kind.the-variants.{Add, Adopt, Learn, Wedge, Install, Inherit, CatchUp, Kept, Unknown}
-use Rattle.model.specs.declared.step.Step.{Step}
+use Rattle.types.specs.declared.kind.Kind.{Kind}
+use Rattle.types.specs.declared.kind.Kind.the-variants.{Add, Adopt, Learn, Wedge, Install, Inherit, CatchUp, Kept, Unknown}
+use Rattle.types.specs.declared.step.Step.{Step}
 use Rattle.model.specs.Checks.{firstOf}
-use Rattle.model.specs.Kinds.{kindOf}
-use Rattle.model.specs.Members.{replicaNumber}
+use Rattle.types.specs.Kinds.{kindOf}
+use Rattle.types.specs.Members.{replicaNumber}
 use Rattle.model.specs.Entries.{issueShard}
 use Rattle.model.specs.Replicas.{Replica, isActive, isPending, isImmutable}
 use Rattle.model.specs.Layout.{shardsOf, place, sequencer, installed, isInstalled, members, orderer, replicaAt}
@@ -24,7 +24,8 @@ use Rattle.model.specs.Wedge.{wedgeChecks}
 use Rattle.model.specs.Install.{issuer, issuedAt, isStableIssue, isWedged, isNewestWedged, installChecks}
 use Rattle.model.specs.Inherit.{source, isSource, inheritChecks}
 use Rattle.model.specs.CatchUp.{isPeer, catchUpChecks}
-use Rattle.model.specs.Steps.{shardOf, configurationOf, inRange, kindChecks, stepChecks, rejection}
+use Rattle.types.specs.StepNames.{shardOf, configurationOf}
+use Rattle.model.specs.Steps.{inRange, kindChecks, stepChecks, rejection}
 use Rattle.model.specs.Unchanged.{OriginsAlone}
 use Rattle.model.proofs.Checks.{in-range}
 use Rattle.model.proofs.Places.{replica-place}
@@ -166,7 +167,7 @@ module _ {v w : List ℕ} (a : OriginsAlone v w) where
 -- ---- every step
 
 -- a check, and others behind it that matter where it passes
-decided : (t : Bool) (x y n : ℕ) → (t ≡ true → x ≡ y) → cond t x n ≡ cond t y n
+pub decided : (t : Bool) (x y n : ℕ) → (t ≡ true → x ≡ y) → cond t x n ≡ cond t y n
 decided true x y n e = e refl
 decided false x y n e = refl
 

@@ -7,14 +7,15 @@ use mathlib.Core.Bool.{true}
 use mathlib.Core.List.{List, [], _∷_}
 use lib.ListN.{length, length-append, length-set}
 use borrow.Author.Tests.{ltb-true}
-use Rattle.model.specs.declared.kind.Kind.{Kind}
-use Rattle.model.specs.declared.kind.Kind.the-variants.{Add, Adopt, Learn, Wedge, Install, Inherit, CatchUp, Kept, Unknown}
-use Rattle.model.specs.declared.step.Step.{Step}
-use Rattle.model.specs.Kinds.{kindOf}
-use Rattle.model.specs.Members.{size, hasMember, replicaNumber}
+use Rattle.types.specs.declared.kind.Kind.{Kind}
+use Rattle.types.specs.declared.kind.Kind.the-variants.{Add, Adopt, Learn, Wedge, Install, Inherit, CatchUp, Kept, Unknown}
+use Rattle.types.specs.declared.step.Step.{Step}
+use Rattle.types.specs.Kinds.{kindOf}
+use Rattle.types.specs.Members.{size, hasMember, replicaNumber}
 use Rattle.model.specs.Replicas.{Replica, pending, added, adopted, learned, wedged, inherited, caughtUp}
 use Rattle.model.specs.Layout.{installed, members, orderer, putReplica, putHead}
-use Rattle.model.specs.Configuration.{configuration, replicaPlace, replicaOf, replicaIn}
+use Rattle.model.specs.Configuration.{configuration, replicaOf, replicaIn}
+use Rattle.types.specs.ReplicaPlace.{replicaPlace}
 use Rattle.model.specs.Add.{ordererPlace, ordererReplica, addChecks, addEffect}
 use Rattle.model.specs.Adopt.{adoptChecks, adoptEffect}
 use Rattle.model.specs.Learn.{learnChecks, learnEffect}
@@ -64,11 +65,11 @@ module _ {r s : Replica} (e : OriginAlone r s) where
   caught-up-alone = record { mode = refl; history = e .history; stable = e .stable }
 
 -- a replica's history is short, wherever it is read
-host-short : (w : List ℕ) (z j h : ℕ) → length (replicaOf w (configuration w z j) h .history) ≤ 56
+pub host-short : (w : List ℕ) (z j h : ℕ) → length (replicaOf w (configuration w z j) h .history) ≤ 56
 unfolding replicaOf
 host-short w z j h = short w (replicaPlace (configuration w z j) h)
 
-orderer-short : (w : List ℕ) (z j : ℕ) → length (ordererReplica w z j .history) ≤ 56
+pub orderer-short : (w : List ℕ) (z j : ℕ) → length (ordererReplica w z j .history) ≤ 56
 unfolding ordererReplica
 orderer-short w z j = host-short w z j (configuration w z j .orderer)
 

@@ -9,14 +9,14 @@ use mathlib.Core.Bool.{true}
 use mathlib.Core.List.{List, []}
 use borrow.Author.Tests.{lt-ltb, le-leb, eq-eqb}
 use Rattle.model.specs.Checks.{firstOf}
-use Rattle.model.specs.Kinds.{kindOf, isKept, isUnknown}
-use Rattle.model.specs.Members.{isHost}
+use Rattle.types.specs.Kinds.{kindOf, isKept, isUnknown}
+use Rattle.types.specs.Members.{isHost}
 use Rattle.model.specs.Replicas.{isPending, isImmutable}
 use Rattle.model.specs.Layout.{installed, isInstalled, members, orderer}
 use Rattle.model.specs.Configuration.{replicaIn}
 use Rattle.model.specs.Inherit.{source, isSource, inheritChecks}
-use Rattle.model.specs.Steps.{shardOf, configurationOf, areNumbers, inRange, kindChecks, rejection}
-use Rattle.model.specs.Setup.{afterSetup}
+use Rattle.types.specs.StepNames.{shardOf, configurationOf}
+use Rattle.model.specs.Steps.{areNumbers, inRange, kindChecks, rejection}
 use Rattle.model.specs.Runs.{Moment, stateAt}
 use Rattle.model.specs.OneList.{shards, Seated}
 use Rattle.model.specs.Marked.{inherit}
@@ -25,11 +25,10 @@ use Rattle.model.proofs.Members.{member-at, member-host}
 use Rattle.model.proofs.WellFormedMembers.{Configured, head-installed, member-proper}
 use Rattle.model.proofs.SeatedReplica.{member-view}
 use Rattle.model.proofs.Safe.{Safe, Wedged}
-use Rattle.model.proofs.Kept.{Source, formed}
-use Rattle.model.proofs.KeptKinds.{in-use}
+use Rattle.model.proofs.SafeChange.{Source, formed}
+use Rattle.model.proofs.SafeKinds.{in-use}
 use Rattle.model.proofs.Sources.{source-onward}
-use Rattle.model.proofs.SafeSetup.{safe-setup}
-use Rattle.model.proofs.RunSteps.{Run, played-run}
+use Rattle.model.proofs.SetupRuns.{FromSetup, from-setup}
 use Rattle.model.proofs.Moments.{offersAt, safe-at, forward-to, shards-at}
 use Rattle.model.proofs.Answers.{quickRejection, quick-rejection}
 
@@ -100,19 +99,19 @@ module _ {w : List ℕ} {offers : ℕ → List ℕ} (x : Safe w offers) {z j h :
       let t = source-host x (d .shard) before (x .wedges z (j - 1) (d .shard) (rw next (d .configured))) in
       record { host = t .host; accepted = accepted-from (t .host) (t .small) (t .is-source) }
 
-module _ {w : List ℕ} {ms : List Moment} (r : Run w ms) (s : Safe w (λ z. [])) where
+module _ {w : List ℕ} {ms : List Moment} (r : FromSetup w ms) where
   safe : (n : ℕ) → Safe (stateAt w ms n) (offersAt ms (λ z n. []) n)
-  safe n = safe-at r (λ z n. []) s n
+  safe n = safe-at r (λ z n. []) n
 
   shard-at : (n : ℕ) {z : ℕ} → z < shards w → z < shards (stateAt w ms n)
-  shard-at n h = rw (shards-at r (λ z n. []) s n) h
+  shard-at n h = rw (shards-at r (λ z n. []) n) h
 
   wedged-from : (z j m : ℕ) → z < shards w → suc j < installed (stateAt w ms m) z → WedgedFrom w ms z j m
   wedged-from z j m h l =
       record {
         host = t .host;
         stays = λ n q.
-            let f = source-onward (forward-to r (λ z n. []) s m n q) (shard-at m h) (t .is-source) in
+            let f = source-onward (forward-to r (λ z n. []) m n q) (shard-at m h) (t .is-source) in
             record {
               seated = record { shard = shard-at n h; configured = f .there; member = f .member };
               immutable = source-immutable (safe n) (shard-at n h) (f .there) (t .host) f;
@@ -128,9 +127,5 @@ module _ {w : List ℕ} {ms : List Moment} (r : Run w ms) (s : Safe w (λ z. [])
 pub wedged-first : WedgedFirstClaim
 unfolding WedgedFirstClaim
 wedged-first w p e calls =
-    let run = played-run (afterSetup w p) calls in
-    let start = safe-setup w p e in
-    record {
-      wedged = wedged-from run start;
-      source = λ z j h n d waits. has-source (safe run start n) d waits;
-    }
+    let run = from-setup w p e calls in
+    record { wedged = wedged-from run; source = λ z j h n d waits. has-source (safe run n) d waits }

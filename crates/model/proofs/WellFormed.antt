@@ -7,7 +7,7 @@ use lib.Dec.{leb, ltb, eqb}
 use lib.ListN.{length}
 use borrow.Author.Tests.{leb-true, le-leb, eqb-true, eq-eqb, eqb-false, ne-eqb, not-true}
 use Rattle.model.specs.Tests.{allBelow}
-use Rattle.model.specs.Members.{size}
+use Rattle.types.specs.Members.{size}
 use Rattle.model.specs.Layout.{shardsOf, place, headWord, sequencer, installed, members, part, replicaAt}
 use Rattle.model.specs.Origins.{isOriginOf}
 use Rattle.model.specs.WellFormed.{isPart, isSequencer, allDiffer, isHeadOf, isConfigurationOf, isShard, wellFormed}

@@ -7,7 +7,7 @@ use mathlib.Core.Bool.{Bool, true, false, not}
 use mathlib.Core.List.{List}
 use lib.Dec.{ltb, eqb}
 use borrow.Author.Tests.{ltb-true, lt-ltb, le-ltb, eqb-true}
-use Rattle.model.specs.Members.{size, hasMember, replicaNumber, isConfiguration}
+use Rattle.types.specs.Members.{size, hasMember, replicaNumber, isConfiguration}
 use Rattle.model.specs.Entries.{isIssue, isIssueFor, issueIndex, issueShard, issueOrderer, issueMembers}
 use Rattle.model.specs.Replicas.{readReplica, isPending, isImmutable, pending}
 use Rattle.model.specs.Layout.{shardsOf, place, sequencer, installed, isInstalled, members, orderer, part, replicaAt}

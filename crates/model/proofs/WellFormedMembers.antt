@@ -7,7 +7,7 @@ use mathlib.Core.List.{List, [], _∷_}
 use lib.Dec.{leb, ltb, eqb}
 use lib.Count.{ones}
 use borrow.Author.Tests.{leb-true, ltb-true, lt-ltb, eqb-true}
-use Rattle.model.specs.Members.{isHost, size, hasMember, replicaNumber, isMemberSet, isConfiguration}
+use Rattle.types.specs.Members.{isHost, size, hasMember, replicaNumber, isMemberSet, isConfiguration}
 use Rattle.model.specs.Layout.{place, members, orderer, isInstalled, part, replicaAt}
 use Rattle.model.specs.Configuration.{configuration, replicaOf}
 use Rattle.model.specs.Origins.{isOriginOf}

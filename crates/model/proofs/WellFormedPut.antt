@@ -8,7 +8,7 @@ use mathlib.Core.List.{List}
 use lib.Dec.{ltb}
 use lib.ListN.{length}
 use borrow.Author.Tests.{lt-ltb}
-use Rattle.model.specs.Members.{size, hasMember, replicaNumber}
+use Rattle.types.specs.Members.{size, hasMember, replicaNumber}
 use Rattle.model.specs.Replicas.{Replica, isPending}
 use Rattle.model.specs.Layout.{shardsOf, place, headWord, sequencer, installed, members, orderer, isInstalled, part, replicaAt, putReplica}
 use Rattle.model.specs.Inherit.{source}

@@ -6,11 +6,12 @@ use mathlib.Core.Bool.{true, false, not}
 use mathlib.Core.List.{List}
 use lib.ListN.{length}
 use borrow.Author.Tests.{ltb-true, not-true}
-use Rattle.model.specs.Members.{hasMember, replicaNumber}
+use Rattle.types.specs.Members.{hasMember, replicaNumber}
 use Rattle.model.specs.Entries.{isEntry}
 use Rattle.model.specs.Replicas.{Replica, isPending, isActive, added, adopted, learned, wedged, inherited, caughtUp}
 use Rattle.model.specs.Layout.{place, members, orderer, isInstalled, replicaAt, putReplica}
-use Rattle.model.specs.Configuration.{configuration, replicaPlace, replicaOf, replicaIn}
+use Rattle.model.specs.Configuration.{configuration, replicaOf, replicaIn}
+use Rattle.types.specs.ReplicaPlace.{replicaPlace}
 use Rattle.model.specs.Add.{ordererPlace, ordererReplica, addChecks, addEffect}
 use Rattle.model.specs.Adopt.{adoptChecks, adoptEffect}
 use Rattle.model.specs.Learn.{allAlike, learnChecks, learnEffect}

@@ -10,13 +10,12 @@ use lib.ListN.{length}
 use borrow.Author.Tests.{leb-true, le-ltb, eq-eqb, ne-eqb}
 use Rattle.model.specs.Tests.{allBelow}
 use Rattle.model.specs.Checks.{_orElse_}
-use Rattle.model.specs.Members.{size, isConfiguration}
+use Rattle.types.specs.Members.{size, isConfiguration}
 use Rattle.model.specs.Replicas.{replicaWords, fresh, unused}
 use Rattle.model.specs.Layout.{shardsOf, isStateLength, place, isInstalled, members, part, replicaAt}
 use Rattle.model.specs.Origins.{isOriginOf}
 use Rattle.model.specs.WellFormed.{isPart, isSequencer, allDiffer, isHeadOf, wellFormed}
-use Rattle.model.specs.Setup.{planSequencer, planMembers, planOrderer, isPlannedShard, isPlan}
-use Rattle.model.specs.Setup.{setupRejection, initialReplica, initialState, afterSetup}
+use Rattle.model.specs.Setup.{planSequencer, planMembers, planOrderer, isPlannedShard, isPlan, setupRejection, initialReplica, initialState, afterSetup}
 use Rattle.model.proofs.Tests.{both, all-pass, all-below}
 use Rattle.model.proofs.Lengths.{length-of-shards}
 use Rattle.model.proofs.Checks.{passed}

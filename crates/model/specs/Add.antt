@@ -9,7 +9,8 @@ use Rattle.model.specs.Checks.{Check, _orElse_}
 use Rattle.model.specs.Entries.{isIssue, issueShard, rivals}
 use Rattle.model.specs.Replicas.{Replica, mostEntries, isActive, added}
 use Rattle.model.specs.Layout.{sequencer, isInstalled, putReplica}
-use Rattle.model.specs.Configuration.{configuration, replicaPlace, replicaOf}
+use Rattle.model.specs.Configuration.{configuration, replicaOf}
+use Rattle.types.specs.ReplicaPlace.{replicaPlace}
 
 -- the orderer's replica of configuration j, and its place
 unfoldable pub ordererPlace : List ℕ → ℕ → ℕ → ℕ

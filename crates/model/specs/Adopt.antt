@@ -4,10 +4,11 @@ use mathlib.Core.Bool.{not}
 use mathlib.Core.List.{List, [], _∷_}
 use lib.Dec.{eqb}
 use Rattle.model.specs.Checks.{Check, _orElse_}
-use Rattle.model.specs.Members.{hasMember}
+use Rattle.types.specs.Members.{hasMember}
 use Rattle.model.specs.Replicas.{isActive, isPending, adopted}
 use Rattle.model.specs.Layout.{isInstalled, members, orderer, putReplica}
-use Rattle.model.specs.Configuration.{configuration, replicaPlace, replicaOf}
+use Rattle.model.specs.Configuration.{configuration, replicaOf}
+use Rattle.types.specs.ReplicaPlace.{replicaPlace}
 use Rattle.model.specs.Add.{ordererReplica}
 
 -- "adopt 10, 11, 14, 12, 13"

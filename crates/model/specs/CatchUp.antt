@@ -4,10 +4,11 @@ use Prim.Native.Nat.{ℕ}
 use mathlib.Core.Bool.{Bool, not, _&&_}
 use mathlib.Core.List.{List, [], _∷_}
 use Rattle.model.specs.Checks.{Check, _orElse_}
-use Rattle.model.specs.Members.{hasMember}
+use Rattle.types.specs.Members.{hasMember}
 use Rattle.model.specs.Replicas.{isPending, caughtUp}
 use Rattle.model.specs.Layout.{isInstalled, members, putReplica}
-use Rattle.model.specs.Configuration.{configuration, replicaPlace, replicaIn}
+use Rattle.model.specs.Configuration.{configuration, replicaIn}
+use Rattle.types.specs.ReplicaPlace.{replicaPlace}
 
 -- "a seat of the same configuration that is not pending": "A source that is no member or is pending gets 13"
 unfoldable pub isPeer : List ℕ → ℕ → ℕ → ℕ → Bool

@@ -1,18 +1,14 @@
 -- A configuration of a state as a record, and the replicas of its hosts.
-use Prim.Native.Nat.{ℕ, _+_, _*_}
+use Prim.Native.Nat.{ℕ}
 use mathlib.Core.List.{List}
-use Rattle.model.specs.declared.configuration.Configuration.{Configuration}
-use Rattle.model.specs.Members.{replicaNumber}
-use Rattle.model.specs.Layout.{partWords, place, members, orderer, replicaAt}
+use Rattle.types.specs.ReplicaPlace.{replicaPlace}
+use Rattle.types.specs.declared.configuration.Configuration.{Configuration}
+use Rattle.model.specs.Layout.{place, members, orderer, replicaAt}
 use Rattle.model.specs.Replicas.{Replica}
 
 -- configuration j (index j + 1) of shard z
 unfoldable pub configuration : List ℕ → ℕ → ℕ → Configuration
 configuration w z j = record { place = place z j 0; members = members w z j; orderer = orderer w z j }
-
--- the place of a host's replica
-unfoldable pub replicaPlace : Configuration → ℕ → ℕ
-replicaPlace c h = c .place + partWords * replicaNumber (c .members) h
 
 -- "The seat" of a host, and the orderer's
 unfoldable pub replicaOf : List ℕ → Configuration → ℕ → Replica

@@ -1,10 +1,9 @@
 -- The entries of a history (document 01, "State"): takes, and issues of configurations. One classification, cited everywhere.
 use Prim.Native.Nat.{ℕ, _+_, _*_, _/_, _%_, _^_}
-use mathlib.Core.Bool.{Bool, not, _&&_, _||_}
+use mathlib.Core.Bool.{Bool, not, _&&_, _||_, cond}
 use mathlib.Core.List.{List, [], _∷_}
-use mathlib.Core.Bool.{cond}
 use lib.Dec.{leb, ltb, eqb}
-use Rattle.model.specs.Members.{isConfiguration}
+use Rattle.types.specs.Members.{isConfiguration}
 
 -- "a take, 1 to 4,294,967,295"
 unfoldable pub isTake : ℕ → Bool

@@ -3,10 +3,11 @@ use Prim.Native.Nat.{ℕ, _-_}
 use mathlib.Core.Bool.{Bool, _&&_}
 use mathlib.Core.List.{List, [], _∷_}
 use Rattle.model.specs.Checks.{Check, _orElse_}
-use Rattle.model.specs.Members.{hasMember}
+use Rattle.types.specs.Members.{hasMember}
 use Rattle.model.specs.Replicas.{Replica, isPending, isImmutable, inherited}
 use Rattle.model.specs.Layout.{isInstalled, members, putReplica}
-use Rattle.model.specs.Configuration.{configuration, replicaPlace, replicaOf}
+use Rattle.model.specs.Configuration.{configuration, replicaOf}
+use Rattle.types.specs.ReplicaPlace.{replicaPlace}
 
 -- "source's seat of index − 1"
 unfoldable pub source : List ℕ → ℕ → ℕ → ℕ → Replica

@@ -6,7 +6,7 @@ use lib.Dec.{ltb, eqb}
 use lib.ListN.{getD}
 use Rattle.model.specs.Tests.{allBelow, anyBelow}
 use Rattle.model.specs.Checks.{Check, _orElse_}
-use Rattle.model.specs.Members.{size, hasMember}
+use Rattle.types.specs.Members.{size, hasMember}
 use Rattle.model.specs.Entries.{isIssueFor, names, issueIndex, issueOrderer, issueMembers}
 use Rattle.model.specs.Replicas.{Replica, isImmutable, pending}
 use Rattle.model.specs.Layout.{place, sequencer, installed, isInstalled, members, replicaAt, putReplica, putHead}

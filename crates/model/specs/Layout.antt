@@ -5,9 +5,10 @@ use mathlib.Core.Bool.{Bool, cond}
 use mathlib.Core.List.{List, _++_}
 use lib.Dec.{leb, ltb, eqb}
 use lib.ListN.{getD, take, drop, set}
+use Rattle.types.specs.ReplicaPlace.{partWords}
 use Rattle.model.specs.Replicas.{Replica, readReplica, replicaWords}
 
--- how many words a shard has, its head, one of its configurations (four replicas), and a replica
+-- how many words a shard has, its head, and one of its configurations (four replicas); a replica has `partWords`
 abbrev pub shardWords : ℕ
 shardWords = 2112
 
@@ -16,9 +17,6 @@ headWords = 64
 
 abbrev pub configurationWords : ℕ
 configurationWords = 256
-
-abbrev pub partWords : ℕ
-partWords = 64
 
 -- the Z of a state's length, 0 for a length that no state has; request A5: "only by comparing with the seven lengths that can occur".
 -- `Lengths.antt` says that it is the quotient by 2,112

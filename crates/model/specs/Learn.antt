@@ -6,10 +6,11 @@ use lib.Dec.{leb, ltb, eqb}
 use lib.ListN.{length, getD}
 use Rattle.model.specs.Tests.{allBelow}
 use Rattle.model.specs.Checks.{Check, _orElse_}
-use Rattle.model.specs.Members.{size, hasMember}
+use Rattle.types.specs.Members.{size, hasMember}
 use Rattle.model.specs.Replicas.{isActive, learned}
 use Rattle.model.specs.Layout.{place, isInstalled, members, putReplica, replicaAt}
-use Rattle.model.specs.Configuration.{configuration, replicaPlace, replicaOf}
+use Rattle.model.specs.Configuration.{configuration, replicaOf}
+use Rattle.types.specs.ReplicaPlace.{replicaPlace}
 
 -- history g is at least n long and in its first n entries like history f
 unfoldable pub alike : ℕ → List ℕ → List ℕ → Bool

@@ -6,10 +6,10 @@ use mathlib.Core.Bool.{true}
 use mathlib.Core.List.{List, [], _∷_, _++_}
 use lib.Dec.{ltb}
 use lib.ListN.{length, take, drop}
-use Rattle.model.specs.declared.Reading.the-variants.{Rejected}
-use Rattle.model.specs.declared.Stop.{Stop}
-use Rattle.model.specs.declared.Stop.the-variants.{Ended, Spent, Damaged}
-use Rattle.model.specs.declared.step.Step.{Step}
+use Rattle.types.specs.declared.Reading.the-variants.{Rejected}
+use Rattle.types.specs.declared.Stop.{Stop}
+use Rattle.types.specs.declared.Stop.the-variants.{Ended, Spent, Damaged}
+use Rattle.types.specs.declared.step.Step.{Step}
 use Rattle.model.specs.Log.{Log, readStep, readLog}
 use Rattle.model.specs.Tests.{allOf}
 use Rattle.model.specs.Writer.{stepBytes}

@@ -3,9 +3,9 @@ use Prim.Native.Nat.{ℕ, zero, suc, _+_, _^_}
 use mathlib.Core.Path.{_≡_}
 use mathlib.Core.List.{List, [], _∷_, _++_}
 use lib.ListN.{replicate}
-use Rattle.model.specs.declared.Reading.{Reading}
-use Rattle.model.specs.declared.Reading.the-variants.{Step as Read, Rejected}
-use Rattle.model.specs.declared.step.Step.{Step}
+use Rattle.types.specs.declared.Reading.{Reading}
+use Rattle.types.specs.declared.Reading.the-variants.{Step as Read, Rejected}
+use Rattle.types.specs.declared.step.Step.{Step}
 use Rattle.model.specs.Entries.{issue}
 use Rattle.model.specs.Steps.{rejection, after}
 use Rattle.model.specs.Log.{readStep}

@@ -4,8 +4,8 @@ use mathlib.Core.Bool.{Bool, true, false, cond, not, _&&_}
 use mathlib.Core.List.{List, [], _∷_, _++_}
 use lib.Dec.{ltb, eqb}
 use lib.ListN.{drop}
-use Rattle.model.specs.declared.Number.{Number}
-use Rattle.model.specs.declared.Number.the-variants.{Value, Rejected}
+use Rattle.types.specs.declared.Number.{Number}
+use Rattle.types.specs.declared.Number.the-variants.{Value, Rejected}
 
 -- "at most five bytes"
 abbrev pub mostBytes : ℕ

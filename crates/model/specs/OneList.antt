@@ -4,7 +4,7 @@ use mathlib.Core.Path.{_≡_}
 use mathlib.Core.Bool.{true}
 use mathlib.Core.List.{List}
 use lib.ListN.{length}
-use Rattle.model.specs.Members.{hasMember}
+use Rattle.types.specs.Members.{hasMember}
 use Rattle.model.specs.Entries.{issue, firstIssue}
 use Rattle.model.specs.Replicas.{stablePrefix}
 use Rattle.model.specs.Layout.{shardsOf, sequencer, installed, members, orderer}

@@ -5,9 +5,9 @@ use mathlib.Core.Bool.{Bool, true, false, cond, _&&_}
 use mathlib.Core.List.{List, [], _∷_, _++_}
 use lib.Dec.{eqb}
 use lib.ListN.{take}
-use Rattle.model.specs.declared.step.Step.{Step}
+use Rattle.types.specs.declared.step.Step.{Step}
 use Rattle.model.specs.Tests.{contains}
-use Rattle.model.specs.Steps.{shardOf}
+use Rattle.types.specs.StepNames.{shardOf}
 use Rattle.model.specs.Runs.{Moment}
 
 -- "It keeps a list and the entries on offer, both empty at setup."

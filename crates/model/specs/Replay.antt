@@ -4,9 +4,9 @@ use mathlib.Core.Bool.{cond}
 use mathlib.Core.List.{List, [], _∷_}
 use lib.Dec.{eqb}
 use lib.ListN.{length}
-use Rattle.model.specs.declared.step.Step.{Step}
-use Rattle.model.specs.declared.Report.{Report}
-use Rattle.model.specs.declared.Stop.the-variants.{Rejected}
+use Rattle.types.specs.declared.step.Step.{Step}
+use Rattle.types.specs.declared.Report.{Report}
+use Rattle.types.specs.declared.Stop.the-variants.{Rejected}
 use Rattle.model.specs.Checks.{firstOf, _orElse_}
 use Rattle.model.specs.Layout.{isStateLength}
 use Rattle.model.specs.WellFormed.{wellFormed}

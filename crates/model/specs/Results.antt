@@ -5,13 +5,13 @@ use mathlib.Core.Bool.{cond}
 use mathlib.Core.List.{List, []}
 use lib.Dec.{eqb}
 use lib.ListN.{length, drop}
-use Rattle.model.specs.declared.step.Step.{Step}
-use Rattle.model.specs.declared.Reading.{Reading}
-use Rattle.model.specs.declared.Reading.the-variants.{Step as Read, End, Rejected as NotRead}
-use Rattle.model.specs.declared.Writing.{Writing}
-use Rattle.model.specs.declared.Writing.the-variants.{Bytes, Rejected as NotWritten}
-use Rattle.model.specs.declared.Stop.{Stop}
-use Rattle.model.specs.declared.Stop.the-variants.{Ended, Spent, Damaged, Rejected}
+use Rattle.types.specs.declared.step.Step.{Step}
+use Rattle.types.specs.declared.Reading.{Reading}
+use Rattle.types.specs.declared.Reading.the-variants.{Step as Read, End, Rejected as NotRead}
+use Rattle.types.specs.declared.Writing.{Writing}
+use Rattle.types.specs.declared.Writing.the-variants.{Bytes, Rejected as NotWritten}
+use Rattle.types.specs.declared.Stop.{Stop}
+use Rattle.types.specs.declared.Stop.the-variants.{Ended, Spent, Damaged, Rejected}
 use Rattle.model.specs.Log.{stepOf, readStep, readLog}
 use Rattle.model.specs.Replay.{replayRejection}
 

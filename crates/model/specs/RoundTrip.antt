@@ -6,9 +6,9 @@ use mathlib.Core.Bool.{true, false}
 use mathlib.Core.List.{List, _++_}
 use lib.Dec.{ltb}
 use lib.ListN.{length, take}
-use Rattle.model.specs.declared.Reading.the-variants.{Step as Read}
-use Rattle.model.specs.declared.step.Step.{Step}
-use Rattle.model.specs.Kinds.{kindOf, isKept, isUnknown}
+use Rattle.types.specs.declared.Reading.the-variants.{Step as Read}
+use Rattle.types.specs.declared.step.Step.{Step}
+use Rattle.types.specs.Kinds.{kindOf, isKept, isUnknown}
 use Rattle.model.specs.Log.{readStep}
 use Rattle.model.specs.Tests.{allOf}
 use Rattle.model.specs.Writer.{areWritable, stepBytes}

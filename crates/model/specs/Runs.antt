@@ -2,7 +2,7 @@
 -- logs and budgets, refused ones included. All are lent that one state whole, as the call before left it".
 use Prim.Native.Nat.{ℕ, zero, suc}
 use mathlib.Core.List.{List, [], _∷_, _++_}
-use Rattle.model.specs.declared.step.Step.{Step}
+use Rattle.types.specs.declared.step.Step.{Step}
 use Rattle.model.specs.Steps.{rejection, after}
 use Rattle.model.specs.Replay.{replayed, afterReplay}
 

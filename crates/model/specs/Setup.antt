@@ -6,7 +6,7 @@ use lib.Dec.{ltb, eqb}
 use lib.ListN.{length, getD, replicate}
 use Rattle.model.specs.Tests.{allBelow, concatBelow}
 use Rattle.model.specs.Checks.{firstOf, _orElse_}
-use Rattle.model.specs.Members.{size, isConfiguration}
+use Rattle.types.specs.Members.{size, isConfiguration}
 use Rattle.model.specs.Replicas.{Replica, replicaWords, fresh, unused}
 use Rattle.model.specs.Layout.{shardsOf, isStateLength}
 use Rattle.model.specs.WellFormed.{isSequencer, allDiffer}

@@ -5,7 +5,7 @@ use mathlib.Core.Bool.{true}
 use mathlib.Core.List.{List}
 use Prim.Native.Nat.{ℕ}
 use lib.ListN.{length}
-use Rattle.model.specs.declared.step.Step.{Step}
+use Rattle.types.specs.declared.step.Step.{Step}
 use Rattle.model.specs.WellFormed.{wellFormed}
 use Rattle.model.specs.Setup.{setupRejection, afterSetup}
 use Rattle.model.specs.Steps.{rejection, after}

@@ -1,15 +1,16 @@
 -- A step: what it names, its rejection in document 01's order, and what it leaves.
-use Prim.Native.Nat.{ℕ, _-_}
+use Prim.Native.Nat.{ℕ}
 use mathlib.Core.Bool.{Bool, true, cond, not, _&&_}
 use mathlib.Core.List.{List, [], _∷_}
 use lib.Dec.{leb, ltb, eqb}
 use lib.ListN.{length}
-use Rattle.model.specs.declared.kind.Kind.{Kind}
-use Rattle.model.specs.declared.kind.Kind.the-variants.{Add, Adopt, Learn, Wedge, Install, Inherit, CatchUp, Kept, Unknown}
-use Rattle.model.specs.declared.step.Step.{Step}
+use Rattle.types.specs.declared.kind.Kind.{Kind}
+use Rattle.types.specs.declared.kind.Kind.the-variants.{Add, Adopt, Learn, Wedge, Install, Inherit, CatchUp, Kept, Unknown}
+use Rattle.types.specs.StepNames.{shardOf, configurationOf}
+use Rattle.types.specs.declared.step.Step.{Step}
 use Rattle.model.specs.Checks.{Check, firstOf, _orElse_}
-use Rattle.model.specs.Kinds.{kindOf, isKept, isUnknown, namesHost}
-use Rattle.model.specs.Members.{isHost}
+use Rattle.types.specs.Kinds.{kindOf, isKept, isUnknown}
+use Rattle.types.specs.Members.{isHost}
 use Rattle.model.specs.Entries.{isEntry}
 use Rattle.model.specs.Layout.{shardsOf, isStateLength}
 use Rattle.model.specs.WellFormed.{wellFormed}
@@ -20,17 +21,6 @@ use Rattle.model.specs.Wedge.{wedgeChecks, wedgeEffect}
 use Rattle.model.specs.Install.{installChecks, installEffect}
 use Rattle.model.specs.Inherit.{inheritChecks, inheritEffect}
 use Rattle.model.specs.CatchUp.{catchUpChecks, catchUpEffect}
-
--- "A step is a kind and four numbers": the shard, the configuration counted from 0, and the acting host (request A7: "the named one; for add it is the
--- orderer of the named configuration")
-unfoldable pub shardOf : Step → ℕ
-shardOf s = s .a
-
-unfoldable pub configurationOf : Step → ℕ
-configurationOf s = s .b - 1
-
-unfoldable pub actingHost : Step → ℕ → ℕ
-actingHost s o = cond (namesHost (kindOf (s .kind))) (s .c) o
 
 -- the third and fourth number of each kind: "a box above 15, length above 56, place above 55, improper entry, or an unused number not 0"
 unfoldable pub areNumbers : Kind → ℕ → ℕ → ℕ → Bool

@@ -4,10 +4,10 @@ use mathlib.Core.Bool.{cond}
 use mathlib.Core.List.{List, [], _∷_, _++_}
 use lib.Dec.{ltb}
 use lib.ListN.{length}
-use Rattle.model.specs.declared.step.Step.{Step}
-use Rattle.model.specs.declared.Stop.{Stop}
-use Rattle.model.specs.declared.Stop.the-variants.{Ended, Spent, Damaged, Rejected}
-use Rattle.model.specs.declared.Report.{Report}
+use Rattle.types.specs.declared.step.Step.{Step}
+use Rattle.types.specs.declared.Stop.{Stop}
+use Rattle.types.specs.declared.Stop.the-variants.{Ended, Spent, Damaged, Rejected}
+use Rattle.types.specs.declared.Report.{Report}
 use Rattle.model.specs.Setup.{initialState}
 use Rattle.model.specs.Steps.{rejection, after}
 use Rattle.model.specs.Replay.{replayed, report, afterReplay}

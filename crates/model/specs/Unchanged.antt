@@ -7,8 +7,9 @@ use mathlib.Core.Bool.{Bool, true, false, _&&_}
 use mathlib.Core.List.{List}
 use lib.Dec.{leb, eqb}
 use lib.ListN.{length, getD}
-use Rattle.model.specs.declared.step.Step.{Step}
-use Rattle.model.specs.Layout.{shardWords, headWords, partWords}
+use Rattle.types.specs.declared.step.Step.{Step}
+use Rattle.model.specs.Layout.{shardWords, headWords}
+use Rattle.types.specs.ReplicaPlace.{partWords}
 use Rattle.model.specs.WellFormed.{wellFormed}
 use Rattle.model.specs.Steps.{rejection, after}
 use Rattle.model.specs.Replay.{afterAll}

@@ -2,10 +2,11 @@
 use Prim.Native.Nat.{ℕ}
 use mathlib.Core.List.{List, [], _∷_}
 use Rattle.model.specs.Checks.{Check, _orElse_}
-use Rattle.model.specs.Members.{hasMember}
+use Rattle.types.specs.Members.{hasMember}
 use Rattle.model.specs.Replicas.{isActive, wedged}
 use Rattle.model.specs.Layout.{isInstalled, members, putReplica}
-use Rattle.model.specs.Configuration.{configuration, replicaPlace, replicaOf}
+use Rattle.model.specs.Configuration.{configuration, replicaOf}
+use Rattle.types.specs.ReplicaPlace.{replicaPlace}
 
 -- "wedge 10, 11, 12"
 unfoldable pub wedgeChecks : List ℕ → ℕ → ℕ → ℕ → List Check

@@ -5,7 +5,7 @@ use mathlib.Core.List.{List}
 use lib.Dec.{leb, ltb, eqb}
 use lib.ListN.{length}
 use Rattle.model.specs.Tests.{allBelow, allOf, same}
-use Rattle.model.specs.Members.{size, isConfiguration}
+use Rattle.types.specs.Members.{size, isConfiguration}
 use Rattle.model.specs.Entries.{isEntry}
 use Rattle.model.specs.Replicas.{Replica, mostEntries, readReplica, replicaWords, isPending}
 use Rattle.model.specs.Layout.{shardsOf, place, headWord, sequencer, installed, members, orderer, isInstalled, part, replicaAt}

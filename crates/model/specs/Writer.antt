@@ -4,11 +4,11 @@ use mathlib.Core.Bool.{Bool, cond, not, _&&_, _||_}
 use mathlib.Core.List.{List, [], _∷_, _++_}
 use lib.Dec.{leb, ltb, eqb}
 use lib.ListN.{length, take, drop}
-use Rattle.model.specs.declared.Writing.{Writing}
-use Rattle.model.specs.declared.Writing.the-variants.{Bytes, Rejected}
-use Rattle.model.specs.declared.step.Step.{Step}
+use Rattle.types.specs.declared.Writing.{Writing}
+use Rattle.types.specs.declared.Writing.the-variants.{Bytes, Rejected}
+use Rattle.types.specs.declared.step.Step.{Step}
 use Rattle.model.specs.Checks.{firstOf, _orElse_}
-use Rattle.model.specs.Kinds.{kindOf, isKept, isUnknown, usedNumbers}
+use Rattle.types.specs.Kinds.{kindOf, isKept, isUnknown, usedNumbers}
 use Rattle.model.specs.Numbers.{mostBytes, numberBytes, numbersBytes}
 
 -- "each number is below 2^35"

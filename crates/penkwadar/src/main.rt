@@ -1,6 +1,6 @@
 // The program: the text of the log on standard input. The log is read to one byte past the most that it may have. A failure is told in one line on
 // standard error; where the log cannot be read whole, nothing is printed.
-use model::Writing;
+use types::Writing;
 ghost use Prim.Native.Nat.{_≤_};
 ghost use lib.ListN.{length};
 

@@ -8,8 +8,8 @@ use mathlib.Core.List.{List}
 use lib.ListN.{length}
 use lib.Seq.{sets, sets-eq}
 use borrow.Author.Tests.{le-leb, lt-leb, ne-eqb}
-use Rattle.model.specs.declared.Writing.{Writing}
-use Rattle.model.specs.declared.Writing.the-variants.{Bytes, Rejected}
+use Rattle.types.specs.declared.Writing.{Writing}
+use Rattle.types.specs.declared.Writing.the-variants.{Bytes, Rejected}
 use Rattle.model.specs.Checks.{firstOf}
 use Rattle.model.specs.Layout.{shardsOf, isStateLength}
 use Rattle.model.specs.WellFormed.{wellFormed}
@@ -18,8 +18,8 @@ use Rattle.model.proofs.Lengths.{several}
 use Rattle.model.proofs.Results.{counted}
 use Rattle.lookup.proofs.Formed.{formed-of}
 use Rattle.histories.specs.Listing.{hasRoom, afterListingOf}
-use Rattle.records.specs.Csv.{csv, csvRejection, csvCount, csvWriting, afterCsv}
-use Rattle.records.specs.Room.{FormedOf}
+use Rattle.csv_rows.specs.Csv.{csv, csvRejection, csvCount, csvWriting, afterCsv}
+use Rattle.csv_rows.specs.Room.{FormedOf}
 
 -- a state that passed the tests
 pub passed : (w : List ℕ) {n : ℕ} → n ≡ shardsOf (length w) → (shardsOf (length w) ≡ 0 → ⊥) → wellFormed w ≡ true → FormedOf w n

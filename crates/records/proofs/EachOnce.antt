@@ -7,7 +7,7 @@ use mathlib.Core.List.{List}
 use lib.ListN.{length, getD}
 use Rattle.model.specs.Layout.{shardsOf}
 use Rattle.model.specs.StableHistory.{stableHistory}
-use Rattle.records.specs.Rows.{Row, shardRows, rows, rowAt}
+use Rattle.csv_rows.specs.Rows.{Row, shardRows, rows, rowAt}
 use Rattle.records.specs.Once.{IsEntryOf, HasRow, Before, by-shard, by-place, EachOnceClaim}
 use Rattle.records.proofs.RowPlaces.{shardsRow, entryRow, no-row, shards-length, first-row, later-row, Stands, first, later, stands}
 

@@ -1,4 +1,4 @@
--- The proof of `specs/Kept.antt`, from the growth of stable histories: an entry keeps its place, so its row stays. Assumes nothing.
+-- The proof of `specs/KeptRows.antt`, from the growth of stable histories: an entry keeps its place, so its row stays. Assumes nothing.
 use Prim.Native.Nat.{ℕ}
 use native.Mathlib.Omega.{arith}
 use mathlib.Core.Path.{_≡_, sym, ap, _∙_}
@@ -12,13 +12,12 @@ use Rattle.model.specs.Setup.{afterSetup}
 use Rattle.model.specs.OneList.{shards}
 use Rattle.model.specs.StableGrowth.{StableGrows, StableGrowth}
 use Rattle.model.proofs.Prefixes.{begins-le, begins-getD}
-use Rattle.model.proofs.RunSteps.{played-run}
-use Rattle.model.proofs.SafeSetup.{safe-setup}
+use Rattle.model.proofs.SetupRuns.{from-setup}
 use Rattle.model.proofs.Moments.{shards-at}
 use Rattle.model.proofs.StableGrowth.{stable-growth}
-use Rattle.records.specs.Rows.{Row, rowOf, rowAt}
+use Rattle.csv_rows.specs.Rows.{Row, rowOf, rowAt}
 use Rattle.records.specs.Once.{IsEntryOf, HasRow}
-use Rattle.records.specs.Kept.{RowsKept, KeptRows}
+use Rattle.records.specs.KeptRows.{RowsKept, KeptRows}
 use Rattle.records.proofs.EachOnce.{each-once}
 
 -- an entry of a history has its row wherever the history goes on
@@ -41,4 +40,4 @@ unfolding KeptRows StableGrowth
 kept-rows w p e calls =
     let start = afterSetup w p in
     kept-over start (played start calls) (stable-growth w p e calls)
-    (shards-at (played-run start calls) (λ z n. []) (safe-setup w p e))
+    (shards-at (from-setup w p e calls) (λ z n. []))

@@ -16,14 +16,14 @@ use Rattle.model.specs.StableHistory.{stableHistory}
 use Rattle.model.proofs.AllOf.{all-head, all-tail}
 use Rattle.model.proofs.Lengths.{shards-most}
 use Rattle.model.proofs.WellFormed.{WellFormed, well-formed}
-use Rattle.text_parts.proofs.Decimal.{decimal-width}
+use Rattle.decimal_text.proofs.DecimalLaws.{decimal-width}
 use Rattle.histories.proofs.HistorySizes.{FewEntries, entry-below, stable-few}
-use Rattle.records.specs.Format.{rowText}
-use Rattle.records.specs.Rows.{historyRows, shardRows, rows}
-use Rattle.records.specs.Csv.{header, rowsText, csv}
-use Rattle.records.specs.Room.{entryText, historyText, shardText}
-use Rattle.records.specs.Largest.{headerBytes, shardMost, LargestClaim}
-use Rattle.records.proofs.RowTexts.{kind-most, entry-length, history-first, shards-first}
+use Rattle.csv_rows.specs.Format.{rowText}
+use Rattle.csv_rows.specs.Rows.{historyRows, shardRows, rows}
+use Rattle.csv_rows.specs.Csv.{header, rowsText, csv}
+use Rattle.csv_rows.specs.Room.{entryText, historyText, shardText}
+use Rattle.records.specs.LargestCsv.{headerBytes, shardMost, LargestClaim}
+use Rattle.csv_rows.proofs.RowTexts.{kind-most, entry-length, history-first, shards-first}
 
 -- ---- one row
 

@@ -1,7 +1,4 @@
 -- Laws of the text.
--- Its parts
-pub mod RowTexts
-pub mod TextParts
 -- What is claimed of it
 pub mod PlainFields
 pub mod RowPlaces

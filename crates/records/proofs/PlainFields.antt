@@ -11,11 +11,11 @@ use Rattle.model.specs.Entries.{isIssue}
 use Rattle.model.specs.Transcript.{digits, decimal}
 use Rattle.model.proofs.AllOf.{all-cons}
 use Rattle.model.proofs.WellFormedParts.{all-append}
-use Rattle.records.specs.Format.{isTextData, arePlain}
-use Rattle.records.specs.Rows.{Row}
-use Rattle.records.specs.Csv.{kindName, rowFields}
+use Rattle.csv_rows.specs.Format.{isTextData, arePlain}
+use Rattle.csv_rows.specs.Rows.{Row}
+use Rattle.csv_rows.specs.Csv.{kindName, rowFields}
 use Rattle.records.specs.Plain.{PlainFields}
-use Rattle.records.proofs.RowTexts.{issue-name, take-name}
+use Rattle.csv_rows.proofs.RowTexts.{issue-name, take-name}
 
 -- ---- numbers
 

@@ -8,7 +8,7 @@ use mathlib.Core.List.{List, [], _∷_}
 use lib.ListN.{length, getD, length-append, List·getD-append}
 use lib.Seq.{getD-append-add}
 use Rattle.model.specs.StableHistory.{stableHistory}
-use Rattle.records.specs.Rows.{Row, rowOf, historyRows, shardRows}
+use Rattle.csv_rows.specs.Rows.{Row, rowOf, historyRows, shardRows}
 
 -- ---- a history
 

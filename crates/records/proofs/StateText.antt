@@ -8,16 +8,16 @@ use lib.ListN.{length, length-append}
 use borrow.Author.Tests.{le-leb}
 use Rattle.model.specs.Layout.{shardsOf, isStateLength}
 use Rattle.model.proofs.Lengths.{shards-most}
-use Rattle.histories.specs.Entries.{entriesAt}
+use Rattle.histories.specs.StableEntries.{entriesAt}
 use Rattle.histories.specs.History.{longestPlace, OfShard}
 use Rattle.histories.proofs.Longest.{picked-entries}
-use Rattle.text_parts.proofs.PartLoops.{Measured}
-use Rattle.records.specs.Format.{rowText}
-use Rattle.records.specs.Rows.{rows}
-use Rattle.records.specs.Csv.{header, csv}
-use Rattle.records.specs.Room.{historyText, shardText, FormedOf}
-use Rattle.records.specs.Largest.{headerBytes, shardMost, csvMost, LargestCsv}
-use Rattle.records.proofs.TextParts.{shardsLeft}
+use Rattle.decimal_text.proofs.PartLoops.{Measured}
+use Rattle.csv_rows.specs.Format.{rowText}
+use Rattle.csv_rows.specs.Rows.{rows}
+use Rattle.csv_rows.specs.Csv.{header, csv}
+use Rattle.csv_rows.specs.Room.{historyText, shardText, FormedOf}
+use Rattle.records.specs.LargestCsv.{headerBytes, shardMost, csvMost, LargestCsv}
+use Rattle.csv_rows.proofs.TextParts.{shardsLeft}
 use Rattle.records.proofs.LargestCsv.{csv-largest}
 
 -- ---- a shard

@@ -1,9 +1,5 @@
--- The text for spreadsheets: its format, its rows, what is answered and left; and what is claimed of it.
-pub mod Format
-pub mod Rows
-pub mod Csv
-pub mod Room
+-- What is claimed of the text for spreadsheets.
 pub mod Plain
-pub mod Largest
+pub mod LargestCsv
 pub mod Once
-pub mod Kept
+pub mod KeptRows

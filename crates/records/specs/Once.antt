@@ -6,7 +6,7 @@ use mathlib.Core.List.{List}
 use lib.ListN.{length, getD}
 use Rattle.model.specs.Layout.{shardsOf}
 use Rattle.model.specs.StableHistory.{stableHistory}
-use Rattle.records.specs.Rows.{Row, rowOf, rows, rowAt}
+use Rattle.csv_rows.specs.Rows.{Row, rowOf, rows, rowAt}
 
 -- r is an entry of a stable history of w
 pub record IsEntryOf (w : List ℕ) (r : Row) : Type 0 where

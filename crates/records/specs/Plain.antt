@@ -3,9 +3,9 @@
 use mathlib.Core.Path.{_≡_}
 use mathlib.Core.Bool.{true}
 use lib.ListN.{length}
-use Rattle.records.specs.Format.{arePlain}
-use Rattle.records.specs.Rows.{Row}
-use Rattle.records.specs.Csv.{header, rowFields}
+use Rattle.csv_rows.specs.Format.{arePlain}
+use Rattle.csv_rows.specs.Rows.{Row}
+use Rattle.csv_rows.specs.Csv.{header, rowFields}
 
 pub record PlainFields : Type 0 where
   pub first : arePlain header ≡ true

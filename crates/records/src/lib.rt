@@ -1,15 +1,12 @@
 // The text for spreadsheets: every shard's stable history as rows of comma-separated fields, written into a borrowed output. What it says is in
-// `specs/Csv.antt`.
+// `csv_rows`: `Csv`.
 use crate::text::HEADER_BYTES;
 use crate::text::SHARD_MOST;
-use model::Writing;
+use types::Writing;
 ghost use mathlib.Core.Path.{_≡_};
 ghost use Rattle.model.specs.Results.{writingNumber, writingCount};
-ghost use Rattle.records.specs.Csv.{csvRejection, csvCount, csvWriting, afterCsv};
+ghost use Rattle.csv_rows.specs.Csv.{csvRejection, csvCount, csvWriting, afterCsv};
 
-mod history;
-mod kind;
-mod row;
 mod shard;
 mod text;
 

@@ -1,16 +1,16 @@
 // The rows of one shard: its stable history, of the replica that the pick finds.
-use crate::history::history_length;
-use crate::history::write_history;
+use csv_rows::history::history_length;
+use csv_rows::history::write_history;
 use histories::pick::longest;
-use model::layout::ENTRIES;
-use model::layout::STABLE;
+use types::layout::ENTRIES;
+use types::layout::STABLE;
 ghost use mathlib.Core.Path.{_≡_};
 ghost use Prim.Native.Nat.{_+_};
 ghost use lib.ListN.{length};
 ghost use lib.Seq.{sets};
-ghost use Rattle.histories.specs.Entries.{entriesAt, HasEntries};
+ghost use Rattle.histories.specs.StableEntries.{entriesAt, HasEntries};
 ghost use Rattle.histories.specs.History.{OfShard};
-ghost use Rattle.records.specs.Room.{historyText, shardText, ShardRoom, RowsRoom};
+ghost use Rattle.csv_rows.specs.Room.{historyText, shardText, ShardRoom, RowsRoom};
 
 // How long the rows of a shard are.
 pub fn shard_length(state: &[u64], shard: u64) -> usize

@@ -1,12 +1,12 @@
 // The whole text: the header, and the rows of the shards one after the other.
 use crate::shard::shard_length;
 use crate::shard::write_shard;
-use text_parts::bytes::write_bytes;
+use decimal_text::bytes::write_bytes;
 ghost use mathlib.Core.Path.{_≡_};
 ghost use lib.ListN.{length};
 ghost use lib.Seq.{sets};
-ghost use Rattle.records.specs.Csv.{csv};
-ghost use Rattle.records.specs.Room.{FormedOf, TextRoom};
+ghost use Rattle.csv_rows.specs.Csv.{csv};
+ghost use Rattle.csv_rows.specs.Room.{FormedOf, TextRoom};
 
 // How long the header row is.
 pub const HEADER_BYTES: usize = 23;

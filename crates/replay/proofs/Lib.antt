@@ -1,11 +1,4 @@
--- Laws of the run, and of its tally.
-pub mod Named
+-- Laws of the run.
 pub mod Rest
 pub mod Running
-pub mod Tallies
-pub mod Tallying
-pub mod TallyLaws
-pub mod ThreeFacts
-pub mod TurnExits
-pub mod Turning
 pub mod Whole

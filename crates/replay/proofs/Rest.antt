@@ -9,12 +9,12 @@ use mathlib.Core.List.{List, _∷_}
 use lib.Dec.{eqb}
 use lib.ListN.{length, drop, drop-of-length-le, length-drop}
 use lib.Seq.{drop-drop, drop-cons}
-use Rattle.model.specs.declared.step.Step.{Step}
-use Rattle.model.specs.declared.Reading.{Reading}
-use Rattle.model.specs.declared.Reading.the-variants.{Step as Read, End, Rejected}
-use Rattle.model.specs.declared.Stop.{Stop}
-use Rattle.model.specs.declared.Stop.the-variants.{Ended, Spent, Damaged}
-use Rattle.model.specs.declared.Report.{Report}
+use Rattle.types.specs.declared.step.Step.{Step}
+use Rattle.types.specs.declared.Reading.{Reading}
+use Rattle.types.specs.declared.Reading.the-variants.{Step as Read, End, Rejected}
+use Rattle.types.specs.declared.Stop.{Stop}
+use Rattle.types.specs.declared.Stop.the-variants.{Ended, Spent, Damaged}
+use Rattle.types.specs.declared.Report.{Report}
 use Rattle.model.specs.Steps.{rejection, after}
 use Rattle.model.specs.Log.{readStep, from, readAt, withStep, stopped, isEmpty, logAfter, readLog}
 use Rattle.model.specs.Replay.{afterAll, rejectedIn}
@@ -66,7 +66,7 @@ read-end log at e = go (readStep (drop at log)) refl e
     go End q p = q
     go (Rejected r) q p = absurd (let z : _≡_ {A = ℕ} 0 1 = cc in omega arith)
 
-read-rejected : (log : List ℕ) (at r : ℕ) → readAt log at ≡ Rejected r → readStep (drop at log) ≡ Rejected r
+pub read-rejected : (log : List ℕ) (at r : ℕ) → readAt log at ≡ Rejected r → readStep (drop at log) ≡ Rejected r
 unfolding readAt from
 read-rejected log at r e = go (readStep (drop at log)) refl e
   where

@@ -8,8 +8,8 @@ use mathlib.Core.List.{List}
 use lib.Dec.{eqb}
 use lib.ListN.{length}
 use borrow.Author.Tests.{eq-eqb, ne-eqb}
-use Rattle.model.specs.declared.step.Step.{Step}
-use Rattle.model.specs.declared.Reading.the-variants.{Step as Read}
+use Rattle.types.specs.declared.step.Step.{Step}
+use Rattle.types.specs.declared.Reading.the-variants.{Step as Read}
 use Rattle.model.specs.Layout.{shardsOf}
 use Rattle.model.specs.Steps.{rejection, after}
 use Rattle.model.specs.Log.{readAt}

@@ -6,8 +6,8 @@ use mathlib.Core.Path.{_≡_, refl, sym, _∙_}
 use mathlib.Core.List.{List, [], _∷_}
 use lib.ListN.{length}
 use borrow.Author.Tests.{leb-true, eq-eqb, ne-eqb}
-use Rattle.model.specs.declared.Report.{Report}
-use Rattle.model.specs.declared.Stop.the-variants.{Rejected}
+use Rattle.types.specs.declared.Report.{Report}
+use Rattle.types.specs.declared.Stop.the-variants.{Rejected}
 use Rattle.model.specs.Checks.{_orElse_}
 use Rattle.model.specs.Layout.{shardsOf, isStateLength}
 use Rattle.model.specs.WellFormed.{wellFormed}
@@ -17,7 +17,6 @@ use Rattle.model.proofs.Checks.{passed}
 use Rattle.model.proofs.Results.{replays}
 use Rattle.lookup.proofs.Formed.{formed-of}
 use Rattle.lookup.specs.Ready.{Formed}
-use Rattle.replay.specs.Returns.{Returns}
 use Rattle.replay.specs.Run.{reportOf, runReport, afterRun}
 
 -- what is reportOf and left, in numbers and as a value
@@ -33,11 +32,6 @@ pub reports : (w log : List ℕ) (budget : ℕ) {x : Report} {v : List ℕ} → 
 reports w log budget p q =
     let t = replays w log budget p in
     (t .number, (t .code, (t .tried, (t .rejected, (t .bytes, (p, q))))))
-
-pub returned : (w log : List ℕ) (budget : ℕ) {x : Report} → x ≡ report w log budget → Returns w log budget x
-returned w log budget p =
-    let t = replays w log budget p in
-    record { number = t .number; code = t .code; tried = t .tried; rejected = t .rejected; bytes = t .bytes; value = p }
 
 -- r is what the test of the state answered
 module _ (w log : List ℕ) (budget : ℕ) {r : ℕ} (e : r ≡ replayRejection w) where

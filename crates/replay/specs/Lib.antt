@@ -1,7 +1,2 @@
--- What a replay reports and leaves is in the crate `model`; here are its tally, and what the functions inside answer, leave and require.
-pub mod Counts
-pub mod Returns
+-- What a replay reports and leaves is in the crate `model`; here is what its run reports and leaves, once the state is tested.
 pub mod Run
-pub mod Tally
-pub mod TallyLaws
-pub mod Turns

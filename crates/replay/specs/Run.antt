@@ -2,8 +2,8 @@
 use Prim.Native.Nat.{ℕ}
 use mathlib.Core.List.{List}
 use lib.ListN.{length}
-use Rattle.model.specs.declared.Stop.{Stop}
-use Rattle.model.specs.declared.Report.{Report}
+use Rattle.types.specs.declared.Stop.{Stop}
+use Rattle.types.specs.declared.Report.{Report}
 use Rattle.model.specs.Log.{readLog}
 use Rattle.model.specs.Replay.{afterAll, rejectedIn}
 

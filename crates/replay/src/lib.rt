@@ -1,14 +1,12 @@
 // The log run: steps are read and tried in order, on a state that is scanned once.
-pub mod tallied;
-pub mod tally;
-mod turns;
-
-use log::long::is_long_add;
-use log::short::is_short;
 use machine::step_inside;
-use model::Reading;
-use model::Report;
-use model::Stop;
+use quick_reader::long;
+use quick_reader::long::is_long_add;
+use quick_reader::short;
+use quick_reader::short::is_short;
+use types::Reading;
+use types::Report;
+use types::Stop;
 ghost use mathlib.Core.Path.{_≡_};
 ghost use mathlib.Core.Bool.{cond};
 ghost use Prim.Native.Nat.{_+_, _-_, _^_, _<_};
@@ -53,11 +51,11 @@ fn run(state: &mut [u64], log: &[u8], budget: u64) -> Report
     let mut rejected: u64 = 0;
     while tried < budget {
         let reading = if is_short(log, at) {
-            log::short::reading(log, at)
+            short::reading(log, at)
         } else if is_long_add(log, at) {
-            log::long::reading(log, at)
+            long::reading(log, at)
         } else {
-            log::reader::read_step(log, at)
+            log_reader::read_step(log, at)
         };
         match reading {
             Reading::Step { step, next } => {
@@ -89,7 +87,7 @@ fn counted_more(rejected: u64, answer: u64) -> u64
 }
 
 // A report.
-fn stopped(stop: Stop, tried: u64, rejected: u64, at: usize) -> Report
+pub fn stopped(stop: Stop, tried: u64, rejected: u64, at: usize) -> Report
     ensures { λ r. ⌜ r ≡ reportOf stop tried rejected at ⌝ }
 {
     Report {

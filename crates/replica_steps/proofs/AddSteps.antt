@@ -8,24 +8,24 @@ use mathlib.Core.List.{List, [], _∷_, _++_}
 use lib.Dec.{ltb}
 use lib.ListN.{length, getD, set}
 use borrow.Author.Tests.{lt-ltb, le-ltb, eq-eqb, ne-eqb, not-true, not-false}
-use Rattle.model.specs.declared.kind.Kind.the-variants.{Add}
+use Rattle.types.specs.declared.kind.Kind.the-variants.{Add}
 use Rattle.model.specs.Checks.{Check, firstOf, _orElse_}
-use Rattle.model.specs.Kinds.{isKept, isUnknown, namesHost}
-use Rattle.model.specs.Rules.{Known}
+use Rattle.types.specs.Kinds.{isKept, isUnknown, namesHost}
+use Rattle.types.specs.Rules.{Known}
 use Rattle.model.specs.Replicas.{replicaWords}
 use Rattle.model.specs.Layout.{shardsOf, isInstalled, orderer, part, replicaAt}
 use Rattle.model.specs.Configuration.{configuration}
 use Rattle.model.specs.Steps.{areNumbers, kindChecks, kindEffect}
 use Rattle.model.specs.Add.{ordererPlace, ordererReplica, mayIssue, addChecks, addEffect}
 use Rattle.model.proofs.Checks.{AllPass, passed, first-before, first-after}
-use Rattle.model.proofs.Rules.{numbers-tell}
-use Rattle.lookup.specs.declared.Seat.{Seat}
+use Rattle.model.proofs.StepNumbers.{numbers-tell}
+use Rattle.lookup.specs.declared.Found.{Found}
 use Rattle.lookup.specs.Ready.{ReadyHost, Placed, HoldsReplica}
-use Rattle.lookup.specs.Seats.{seatOf}
-use Rattle.lookup.specs.Kinds.{kindAnswer, kindAfter}
+use Rattle.lookup.specs.FoundReplicas.{foundOf}
+use Rattle.lookup.specs.KindContracts.{kindAnswer, kindAfter}
 use Rattle.model.proofs.Fields.{active-word}
-use Rattle.lookup.proofs.Words.{length-word}
-use Rattle.lookup.proofs.Seats.{At, at-found, words-at}
+use Rattle.lookup.proofs.StateWords.{length-word}
+use Rattle.lookup.proofs.FoundReplicas.{At, at-found, words-at}
 use Rattle.lookup.proofs.Orderers.{ordered, orderer-host, orderer-replica}
 use Rattle.lookup.proofs.KindAnswers.{in-range, rejects, accepts}
 use Rattle.replica_steps.specs.Adds.{FormedEntry, ReadyAdd, heldChecks}
@@ -48,18 +48,18 @@ module _ {w : List ℕ} {n z j o : ℕ} (p : ReadyAdd w n z j o) (e d : ℕ) {b 
         entry = numbers-tell Add known (shardsOf (length w)) e d (in-range Add (p .kind) e d test x) .0;
       }
 
-  -- r is the seat that was found
-  module _ {r : Seat} (s : r ≡ seatOf w z j o) where
+  -- r is the replica that was found
+  module _ {r : Found} (s : r ≡ foundOf w z j o) where
     -- the orderer is a member, so only 10 is told
     not-there : (r .answer ≡ 0 → ⊥) → r .answer ≡ firstOf (addChecks w z j e)
-    unfolding seatOf addChecks firstOf
+    unfolding foundOf addChecks firstOf
     not-there m = go (isInstalled w z j) refl
       where
         go : (t : Bool) → isInstalled w z j ≡ t → r .answer ≡ firstOf (addChecks w z j e)
         go true i =
             let h = ordered (record { ready = p .kind .ready; there = i }) .has in
-            absurd (m (ap (λ (q : Seat). q .answer) s ∙ rw (i, p .ordered, h)))
-        go false i = ap (λ (q : Seat). q .answer) s ∙ rw i
+            absurd (m (ap (λ (q : Found). q .answer) s ∙ rw (i, p .ordered, h)))
+        go false i = ap (λ (q : Found). q .answer) s ∙ rw i
 
     pub nowhere : (r .answer ≡ 0 → ⊥) → (r .answer ≡ kindAnswer Add w z j e d) × (w ≡ kindAfter Add w z j e d)
     unfolding kindChecks

@@ -18,7 +18,7 @@ use Rattle.model.specs.Add.{noRival}
 use Rattle.model.proofs.WellFormedParts.{at-all}
 use Rattle.model.proofs.Rivals.{names-own, none-named}
 use Rattle.lookup.specs.Searches.{issuedIn}
-use Rattle.lookup.proofs.Words.{history-words}
+use Rattle.lookup.proofs.StateWords.{history-words}
 use Rattle.lookup.proofs.Searches.{issued-nowhere, nowhere-issued}
 use Rattle.replica_steps.specs.Adds.{heldChecks}
 

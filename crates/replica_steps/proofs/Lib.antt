@@ -1,12 +1,4 @@
--- Laws that the proofs of these steps share.
--- Add
+-- Laws that the proofs of an add share.
 pub mod Conflicts
 pub mod AddStores
 pub mod AddSteps
--- Wedge
-pub mod WedgeSteps
--- Learn
-pub mod Turns
-pub mod LearnCompared
-pub mod LearnAlike
-pub mod LearnSteps

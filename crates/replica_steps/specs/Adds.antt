@@ -11,7 +11,7 @@ use Rattle.model.specs.Entries.{isEntry}
 use Rattle.model.specs.Layout.{shardsOf, orderer}
 use Rattle.model.specs.Add.{noRival}
 use Rattle.lookup.specs.Ready.{Formed}
-use Rattle.lookup.specs.Kinds.{ReadyKind}
+use Rattle.lookup.specs.KindContracts.{ReadyKind}
 
 -- a well-formed state and a proper entry
 pub record FormedEntry (w : List ℕ) (e : ℕ) : Type 0 where

@@ -1,16 +1,15 @@
 // Kind 1, add: an entry goes last in the orderer's history.
 use crate::entries::conflict_at;
-use arguments::are_numbers;
-use model::entry;
-use model::kind::Kind;
-use model::layout::ACTIVE;
-use model::layout::ENTRIES;
-use model::layout::LENGTH;
-use model::layout::MOST_ENTRIES;
-use model::layout::SHARD_WORDS;
+use step_numbers::are_numbers;
+use types::kind::Kind;
+use types::layout::ACTIVE;
+use types::layout::ENTRIES;
+use types::layout::LENGTH;
+use types::layout::MOST_ENTRIES;
+use types::layout::SHARD_WORDS;
 ghost use mathlib.Core.Path.{_≡_};
 ghost use Rattle.model.specs.Add.{mayIssue};
-ghost use Rattle.lookup.specs.Kinds.{kindAnswer, kindAfter};
+ghost use Rattle.lookup.specs.KindContracts.{kindAnswer, kindAfter};
 ghost use Rattle.replica_steps.specs.Adds.{FormedEntry, ReadyAdd};
 
 // Whether an entry may stand in shard z: a take, or an issue for a shard that z sequences.
@@ -18,10 +17,10 @@ fn may_issue(state: &[u64], z: usize, e: u64) -> bool
     requires { ⌜ FormedEntry (now state) e ⌝ }
     ensures { λ r. ⌜ r ≡ mayIssue (now (state .entry)) z e ⌝ }
 {
-    if !entry::is_issue(e) {
+    if !issue_words::is_issue(e) {
         return true;
     }
-    let shard = entry::issue_shard(e) as usize;
+    let shard = issue_words::issue_shard(e) as usize;
     state[shard * SHARD_WORDS] == z as u64
 }
 
@@ -42,10 +41,10 @@ pub fn add(
     if !are_numbers(Kind::Add, shards, e, d) {
         return 7;
     }
-    let seat = lookup::find(state, z, j, orderer);
-    let p = seat.place;
-    if seat.answer != 0 {
-        return seat.answer;
+    let found = lookup::find(state, z, j, orderer);
+    let p = found.place;
+    if found.answer != 0 {
+        return found.answer;
     }
     if state[p] != ACTIVE {
         return 12;

@@ -1,9 +1,8 @@
 // What a history has against an entry that is to join it.
 use lookup::entries::has_entry;
 use lookup::entries::is_issued;
-use model::entry;
-use model::layout::ENTRIES;
-use model::layout::LENGTH;
+use types::layout::ENTRIES;
+use types::layout::LENGTH;
 ghost use mathlib.Core.Path.{_≡_};
 ghost use Rattle.model.specs.Checks.{firstOf};
 ghost use Rattle.model.specs.Layout.{replicaAt};
@@ -15,7 +14,7 @@ ghost use Rattle.replica_steps.specs.Adds.{heldChecks};
 fn conflict(history: &[u64], e: u64) -> u64
     ensures { λ r. ⌜ r ≡ firstOf (heldChecks e (now (history .entry))) ⌝ }
 {
-    if entry::is_issue(e) {
+    if issue_words::is_issue(e) {
         if !is_issued(history, e) {
             return 0;
         }

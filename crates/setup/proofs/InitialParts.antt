@@ -9,7 +9,7 @@ use lib.Dec.{ltb}
 use lib.ListN.{length, set, replicate, length-set, length-replicate, replicate-append-replicate}
 use borrow.Author.Tests.{lt-ltb, le-ltb, ltb-true, ltb-false}
 use Rattle.model.specs.Tests.{concatBelow}
-use Rattle.model.specs.Members.{size}
+use Rattle.types.specs.Members.{size}
 use Rattle.model.specs.Replicas.{replicaWords, fresh, unused}
 use Rattle.model.specs.Setup.{initialHead, initialReplica, initialShard}
 use Rattle.setup.proofs.InitialConcat.{concat-zeros, concat-store}

@@ -9,7 +9,7 @@ use lib.Dec.{eqb}
 use lib.ListN.{length, getD}
 use borrow.Author.Tests.{eqb-true}
 use Rattle.model.specs.Tests.{allBelow}
-use Rattle.model.specs.Members.{isConfiguration}
+use Rattle.types.specs.Members.{isConfiguration}
 use Rattle.model.specs.Setup.{planSequencer, planMembers, planOrderer, isPlannedShard, isPlan}
 use Rattle.model.specs.WellFormed.{isSequencer, allDiffer}
 use Rattle.model.proofs.Tests.{both, all-pass, all-below}

@@ -3,7 +3,7 @@ use Prim.Native.Nat.{ℕ, _*_, _≤_, _<_}
 use mathlib.Core.Path.{_≡_}
 use mathlib.Core.List.{List}
 use lib.ListN.{length}
-use Rattle.model.specs.Members.{size}
+use Rattle.types.specs.Members.{size}
 use Rattle.model.specs.Setup.{planMembers}
 
 pub record Planned (Z : ℕ) (p : List ℕ) : Type 0 where

@@ -1,17 +1,17 @@
 // The state that setup writes.
 use crate::plan::SHARD_PLAN;
-use model::configuration::Configuration;
-use model::layout::ACTIVE;
-use model::layout::HEAD_WORDS;
-use model::layout::INSTALLED;
-use model::layout::MEMBERS;
-use model::layout::ORDERERS;
-use model::layout::REPLICA_WORDS;
-use model::layout::SHARD_WORDS;
+use types::configuration::Configuration;
+use types::layout::ACTIVE;
+use types::layout::HEAD_WORDS;
+use types::layout::INSTALLED;
+use types::layout::MEMBERS;
+use types::layout::ORDERERS;
+use types::layout::REPLICA_WORDS;
+use types::layout::SHARD_WORDS;
 ghost use mathlib.Core.Path.{_≡_};
 ghost use Prim.Native.Nat.{_≤_, _*_};
 ghost use lib.ListN.{length, replicate};
-ghost use Rattle.model.specs.Members.{size};
+ghost use Rattle.types.specs.Members.{size};
 ghost use Rattle.model.specs.Layout.{shardWords};
 ghost use Rattle.model.specs.Setup.{initialShard, initialState};
 ghost use Rattle.setup.specs.Planned.{Planned};

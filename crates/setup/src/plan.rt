@@ -18,7 +18,7 @@ fn is_planned_shard(plan: &[u64], shards: usize, z: usize) -> bool
     if !wellformed::shard::is_sequencer(shards, z, plan[at]) {
         return false;
     }
-    wellformed::members::is_configuration(plan[at + 1], plan[at + 2])
+    wellformed_entries::members::is_configuration(plan[at + 1], plan[at + 2])
 }
 
 // Whether the words of all shards are proper.

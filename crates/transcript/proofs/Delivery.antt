@@ -9,13 +9,13 @@ use native.Mathlib.Decide.{decLe}
 use lib.ListN.{length, take, drop, replicate, length-replicate, length-append, length-drop}
 use lib.Seq.{sets, sets-eq, take-at, length-take-le, length-sets}
 use borrow.Author.Tests.{le-leb, lt-leb}
-use Rattle.model.specs.declared.Writing.{Writing}
-use Rattle.model.specs.declared.Writing.the-variants.{Bytes, Rejected}
+use Rattle.types.specs.declared.Writing.{Writing}
+use Rattle.types.specs.declared.Writing.the-variants.{Bytes, Rejected}
 use Rattle.model.specs.Checks.{firstOf}
 use Rattle.model.specs.Results.{writingNumber, writingCount, countBeside}
 use Rattle.model.specs.Transcript.{transcript}
 use Rattle.model.proofs.Results.{counted}
-use Rattle.transcript.specs.Largest.{textMost}
+use Rattle.transcript.specs.LargestText.{textMost}
 use Rattle.transcript.proofs.LargestText.{text-most}
 use Rattle.transcript.specs.Text.{textRejection, textCount, textWriting, afterText}
 

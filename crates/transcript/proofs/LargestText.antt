@@ -1,4 +1,4 @@
--- The proof of `specs/Largest.antt`: no text is longer than 42,232 bytes. Assumes nothing.
+-- The proof of `specs/LargestText.antt`: no text is longer than 42,232 bytes. Assumes nothing.
 use Prim.Native.Nat.{ℕ, _≤_}
 use native.Mathlib.Omega.{arith}
 use mathlib.Core.Path.{_≡_, refl}
@@ -13,7 +13,7 @@ use Rattle.model.specs.Transcript.{stepLines, lastLine, programStart, programBu
 use Rattle.model.proofs.WellFormed.{WellFormed}
 use Rattle.model.proofs.ProgramStart.{start-formed}
 use Rattle.replay.specs.Run.{runReport}
-use Rattle.transcript.specs.Largest.{textMost, LargestText}
+use Rattle.transcript.specs.LargestText.{textMost, LargestText}
 use Rattle.transcript.proofs.LogSizes.{SizedLog, log-sized}
 use Rattle.transcript.proofs.ReplayedState.{formed-replayed, formed-report, formed-after, rejected-most}
 use Rattle.transcript.proofs.LineSizes.{step-lines-width, shard-line-most, last-line-width}

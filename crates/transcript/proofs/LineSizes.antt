@@ -7,10 +7,10 @@ use mathlib.Core.Path.{_≡_}
 use mathlib.Core.Bool.{Bool, true}
 use mathlib.Core.List.{List, [], _∷_}
 use lib.ListN.{length, length-append}
-use Rattle.model.specs.declared.Report.{Report}
-use Rattle.model.specs.declared.Stop.{Stop}
-use Rattle.model.specs.declared.Stop.the-variants.{Ended, Spent, Damaged, Rejected}
-use Rattle.model.specs.declared.step.Step.{Step}
+use Rattle.types.specs.declared.Report.{Report}
+use Rattle.types.specs.declared.Stop.{Stop}
+use Rattle.types.specs.declared.Stop.the-variants.{Ended, Spent, Damaged, Rejected}
+use Rattle.types.specs.declared.step.Step.{Step}
 use Rattle.model.specs.Tests.{allOf}
 use Rattle.model.specs.Entries.{isEntry}
 use Rattle.model.specs.Steps.{rejection, after}
@@ -19,7 +19,7 @@ use Rattle.model.specs.Transcript.{decimal, spaced, spacedAll, stepLines, shard
 use Rattle.model.proofs.AllOf.{all-head, all-tail}
 use Rattle.model.proofs.Lengths.{length-of-shards}
 use Rattle.model.proofs.WellFormed.{WellFormed}
-use Rattle.text_parts.proofs.Decimal.{decimal-width}
+use Rattle.decimal_text.proofs.DecimalLaws.{decimal-width}
 use Rattle.transcript.proofs.LogSizes.{KnownKinds, LogStop}
 use Rattle.transcript.proofs.StepAnswers.{rejection-most}
 use Rattle.histories.proofs.HistorySizes.{FewEntries, entry-below, stable-few}

@@ -7,19 +7,19 @@ use mathlib.Core.Path.{_≡_, refl}
 use mathlib.Core.Bool.{Bool, true, false, cond}
 use mathlib.Core.List.{List, [], _∷_}
 use lib.ListN.{length, drop, length-drop}
-use Rattle.model.specs.declared.Reading.{Reading}
-use Rattle.model.specs.declared.Reading.the-variants.{Step as Read, End, Rejected}
-use Rattle.model.specs.declared.Stop.{Stop}
-use Rattle.model.specs.declared.Stop.the-variants.{Ended, Spent, Damaged, Rejected as NotRun}
-use Rattle.model.specs.declared.step.Step.{Step}
+use Rattle.types.specs.declared.Reading.{Reading}
+use Rattle.types.specs.declared.Reading.the-variants.{Step as Read, End, Rejected}
+use Rattle.types.specs.declared.Stop.{Stop}
+use Rattle.types.specs.declared.Stop.the-variants.{Ended, Spent, Damaged, Rejected as NotRun}
+use Rattle.types.specs.declared.step.Step.{Step}
 use Rattle.model.specs.Log.{Log, readStep, withStep, stopped, isEmpty, logAfter, readLog}
 use Rattle.model.proofs.RoundTrip.{step-within}
-use Rattle.transcript.proofs.StepSizes.{Damage, OneToSix, step-sized, step-damage}
+use Rattle.transcript.proofs.StepSizes.{Damage, KnownNumber, step-sized, step-damage}
 
 -- every step has a kind from 1 to 7
 abbrev pub KnownKinds : List Step → Type 0
 KnownKinds [] = Unit {0}
-KnownKinds (s ∷ ss) = OneToSix (s .kind) × KnownKinds ss
+KnownKinds (s ∷ ss) = KnownNumber (s .kind) × KnownKinds ss
 
 -- how the reading of a log stops
 abbrev pub LogStop : Stop → Type 0

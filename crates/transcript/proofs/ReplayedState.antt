@@ -7,7 +7,7 @@ use mathlib.Core.Bool.{Bool, true, false, cond}
 use mathlib.Core.List.{List, [], _∷_}
 use lib.Dec.{eqb}
 use lib.ListN.{length}
-use Rattle.model.specs.declared.step.Step.{Step}
+use Rattle.types.specs.declared.step.Step.{Step}
 use Rattle.model.specs.Steps.{rejection, after}
 use Rattle.model.specs.Log.{readLog}
 use Rattle.model.specs.Replay.{rejectedIn, replayed, report, afterReplay}

@@ -6,9 +6,9 @@ use mathlib.Core.Path.{_≡_, _∙_}
 use mathlib.Core.List.{List, [], _++_}
 use lib.ListN.{length, drop}
 use lib.Seq.{sets}
-use Rattle.model.specs.declared.step.Step.{Step}
-use Rattle.model.specs.declared.Reading.the-variants.{Step as Read}
-use Rattle.model.specs.declared.Stop.{Stop}
+use Rattle.types.specs.declared.step.Step.{Step}
+use Rattle.types.specs.declared.Reading.the-variants.{Step as Read}
+use Rattle.types.specs.declared.Stop.{Stop}
 use Rattle.model.specs.Steps.{rejection, after}
 use Rattle.model.specs.Log.{readAt, readLog, stopped}
 use Rattle.model.specs.Transcript.{stepLines, programBudget}

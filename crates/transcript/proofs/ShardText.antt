@@ -5,7 +5,7 @@ use mathlib.Core.Path.{_≡_}
 use mathlib.Core.List.{List, _++_}
 use lib.ListN.{length}
 use Rattle.model.specs.Transcript.{spaced, spacedAll, newline, zoneWord, shardLine}
-use Rattle.histories.specs.Entries.{entriesAt}
+use Rattle.histories.specs.StableEntries.{entriesAt}
 use Rattle.histories.specs.History.{longestPlace, OfShard}
 use Rattle.histories.proofs.Longest.{picked, picked-entries}
 use Rattle.transcript.specs.Text.{EntriesRoom}

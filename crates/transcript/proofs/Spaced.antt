@@ -7,7 +7,7 @@ use mathlib.Core.List.{List, _++_}
 use lib.ListN.{length, getD, drop, drop-of-length-le, set}
 use lib.Seq.{sets, drop-cons}
 use Rattle.model.specs.Transcript.{decimal, spaced, spacedAll}
-use Rattle.text_parts.proofs.PartLoops.{InParts}
+use Rattle.decimal_text.proofs.PartLoops.{InParts}
 
 pub spaced-length : (n : ℕ) → length (spaced n) ≡ length (decimal n) + 1
 unfolding spaced

@@ -6,11 +6,11 @@ use mathlib.Core.Bool.{Bool, true, false, cond, _&&_}
 use mathlib.Core.List.{List, [], _∷_}
 use lib.Dec.{leb}
 use borrow.Author.Tests.{leb-true}
-use Rattle.model.specs.declared.kind.Kind.{Kind}
-use Rattle.model.specs.declared.kind.Kind.the-variants.{Add, Adopt, Learn, Wedge, Install, Inherit, CatchUp, Kept, Unknown}
-use Rattle.model.specs.declared.step.Step.{Step}
+use Rattle.types.specs.declared.kind.Kind.{Kind}
+use Rattle.types.specs.declared.kind.Kind.the-variants.{Add, Adopt, Learn, Wedge, Install, Inherit, CatchUp, Kept, Unknown}
+use Rattle.types.specs.declared.step.Step.{Step}
 use Rattle.model.specs.Checks.{Check, firstOf}
-use Rattle.model.specs.Kinds.{kindOf}
+use Rattle.types.specs.Kinds.{kindOf}
 use Rattle.model.specs.Add.{addChecks}
 use Rattle.model.specs.Adopt.{adoptChecks}
 use Rattle.model.specs.Learn.{learnChecks}
@@ -18,7 +18,8 @@ use Rattle.model.specs.Wedge.{wedgeChecks}
 use Rattle.model.specs.Install.{installChecks}
 use Rattle.model.specs.Inherit.{inheritChecks}
 use Rattle.model.specs.CatchUp.{catchUpChecks}
-use Rattle.model.specs.Steps.{shardOf, configurationOf, kindChecks, stepChecks, rejection}
+use Rattle.types.specs.StepNames.{shardOf, configurationOf}
+use Rattle.model.specs.Steps.{kindChecks, stepChecks, rejection}
 use Rattle.model.proofs.Tests.{both}
 
 -- every number is at most m: `refl` proves it of a list that is written out

@@ -8,15 +8,15 @@ use mathlib.Core.Bool.{Bool, true, false, cond, not, _&&_, true≢false}
 use mathlib.Core.List.{List, [], _∷_}
 use lib.Dec.{ltb, eqb}
 use lib.ListN.{drop}
-use Rattle.model.specs.declared.Number.{Number}
-use Rattle.model.specs.declared.Number.the-variants.{Value, Rejected as NotNumber}
-use Rattle.model.specs.declared.Reading.{Reading}
-use Rattle.model.specs.declared.Reading.the-variants.{Step as Read, End, Rejected}
-use Rattle.model.specs.declared.step.Step.{Step}
-use Rattle.model.specs.Kinds.{kindOf, isKept, isUnknown, usedNumbers}
+use Rattle.types.specs.declared.Number.{Number}
+use Rattle.types.specs.declared.Number.the-variants.{Value, Rejected as NotNumber}
+use Rattle.types.specs.declared.Reading.{Reading}
+use Rattle.types.specs.declared.Reading.the-variants.{Step as Read, End, Rejected}
+use Rattle.types.specs.declared.step.Step.{Step}
+use Rattle.types.specs.Kinds.{kindOf, isKept, isUnknown, usedNumbers}
 use Rattle.model.specs.Numbers.{Numbers, values, rejected, withLower, readGroups, readNumber, withFirst, afterFirst, readNumbers}
 use Rattle.model.specs.Log.{stepOf, afterNumbers, afterKind, readStep}
-use Rattle.model.proofs.RoundTrip.{used-cases, kind-below}
+use Rattle.types.proofs.KindNumbers.{used-cases, kind-below}
 
 -- "damaged (3 to 6 ..)"
 pub record Damage (r : ℕ) : Type 0 where
@@ -76,7 +76,7 @@ numbers-sized (suc count) bs = go (readNumber bs) (number-sized bs) (λ n. numbe
 -- ---- a step
 
 -- a kind from 1 to 7
-pub record OneToSix (k : ℕ) : Type 0 where
+pub record KnownNumber (k : ℕ) : Type 0 where
   pub least : 1 ≤ k
   pub most : k ≤ 7
 
@@ -89,7 +89,7 @@ kind-least (suc k) e = omega arith
 -- what reading the step s in n bytes tells
 pub record SizedStep (s : Step) (n : ℕ) : Type 0 where
   pub bytes : 4 ≤ n
-  pub kind : OneToSix (s .kind)
+  pub kind : KnownNumber (s .kind)
 
 abbrev Sized : Reading → Type 0
 Sized (Read s n) = SizedStep s n

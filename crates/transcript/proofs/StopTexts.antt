@@ -3,8 +3,8 @@
 use Prim.Native.Nat.{ℕ}
 use mathlib.Core.Path.{_≡_}
 use mathlib.Core.List.{_++_}
-use Rattle.model.specs.declared.Stop.{Stop}
-use Rattle.model.specs.declared.Stop.the-variants.{Ended, Spent, Damaged, Rejected}
+use Rattle.types.specs.declared.Stop.{Stop}
+use Rattle.types.specs.declared.Stop.the-variants.{Ended, Spent, Damaged, Rejected}
 use Rattle.model.specs.Transcript.{spaced, endedWord, spentWord, damagedWord, rejectedWord, stopText}
 
 module _ {x : Stop} where

@@ -9,11 +9,11 @@ use lib.Count.{ones}
 use lib.ListN.{length}
 use lib.Seq.{sets}
 use borrow.Author.Tests.{lt-ltb, le-ltb}
-use Rattle.model.specs.Members.{size}
+use Rattle.types.specs.Members.{size}
 use Rattle.model.specs.Setup.{planMembers}
 use Rattle.model.specs.Transcript.{newline, tooLongWords, shardLine, lastLine, programPlan, programStart, programBudget, lines, longestLog, tooLong}
 use Rattle.model.specs.Transcript.{transcript}
-use Rattle.model.specs.declared.Report.{Report}
+use Rattle.types.specs.declared.Report.{Report}
 use Rattle.model.specs.Replay.{afterReplay}
 use Rattle.model.proofs.WellFormed.{WellFormed, is-well-formed}
 use Rattle.model.proofs.ProgramStart.{start-formed}

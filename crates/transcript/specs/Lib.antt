@@ -1,3 +1,3 @@
 -- What this crate's functions answer and leave, and the largest text.
 pub mod Text
-pub mod Largest
+pub mod LargestText

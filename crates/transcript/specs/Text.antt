@@ -4,16 +4,16 @@ use mathlib.Core.Bool.{cond}
 use mathlib.Core.List.{List, [], _∷_, _++_}
 use lib.Dec.{leb, eqb}
 use lib.ListN.{length, drop}
-use Rattle.model.specs.declared.Stop.{Stop}
-use Rattle.model.specs.declared.Writing.{Writing}
-use Rattle.model.specs.declared.Writing.the-variants.{Bytes, Rejected}
+use Rattle.types.specs.declared.Stop.{Stop}
+use Rattle.types.specs.declared.Writing.{Writing}
+use Rattle.types.specs.declared.Writing.the-variants.{Bytes, Rejected}
 use Rattle.model.specs.Checks.{firstOf, _orElse_}
 use Rattle.model.specs.Log.{readLog}
 use Rattle.model.specs.Results.{countBeside}
 use Rattle.model.specs.Transcript.{decimal, spaced, spacedAll, newline, stepLines, shardLine, programBudget}
 use Rattle.lookup.specs.Ready.{Formed}
 use Rattle.replay.specs.Run.{runReport}
-use Rattle.histories.specs.Entries.{entriesAt, HasEntries}
+use Rattle.histories.specs.StableEntries.{entriesAt, HasEntries}
 use Rattle.histories.specs.History.{OfShard}
 use Rattle.transcript.specs.declared.steps.Printed.{Printed}
 

@@ -2,8 +2,8 @@
 use crate::number::write_newline;
 use crate::number::write_spaced;
 use crate::number::write_word;
-use model::Stop;
-use text_parts::bytes::write_bytes;
+use decimal_text::bytes::write_bytes;
+use types::Stop;
 ghost use mathlib.Core.Path.{_≡_};
 ghost use Prim.Native.Nat.{_+_, _≤_};
 ghost use lib.ListN.{length};

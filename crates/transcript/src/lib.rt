@@ -1,6 +1,6 @@
 // The program's whole text for a log, written into a borrowed output. What it says is in `model`: `Transcript`.
-use model::Writing;
-use text_parts::bytes::write_bytes;
+use decimal_text::bytes::write_bytes;
+use types::Writing;
 ghost use mathlib.Core.Path.{_≡_};
 ghost use Prim.Native.Nat.{_≤_};
 ghost use lib.ListN.{length, take};

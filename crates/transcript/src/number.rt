@@ -1,6 +1,6 @@
 // Numbers with a space before each, and the end of a line.
-use text_parts::bytes::write_bytes;
-use text_parts::number::write_number;
+use decimal_text::bytes::write_bytes;
+use decimal_text::decimal::write_decimal;
 ghost use mathlib.Core.Path.{_≡_};
 ghost use mathlib.Core.List.{_++_};
 ghost use Prim.Native.Nat.{_+_, _≤_};
@@ -15,7 +15,7 @@ pub fn write_spaced(out: &mut [u8], at: usize, n: u64) -> usize
     ensures { λ _. ⌜ now (out .exit) ≡ sets (now (out .entry)) at (spaced n) ⌝ }
 {
     out[at] = 32;
-    write_number(out, at + 1, n)
+    write_decimal(out, at + 1, n)
 }
 
 // A word, a space and a number.

@@ -3,14 +3,14 @@ use crate::number::write_all_spaced;
 use crate::number::write_newline;
 use crate::number::write_word;
 use histories::pick::longest;
-use model::layout::ENTRIES;
-use model::layout::STABLE;
+use types::layout::ENTRIES;
+use types::layout::STABLE;
 ghost use mathlib.Core.Path.{_≡_};
 ghost use Prim.Native.Nat.{_+_};
 ghost use lib.ListN.{length};
 ghost use lib.Seq.{sets};
 ghost use Rattle.model.specs.Transcript.{spacedAll, shardLine};
-ghost use Rattle.histories.specs.Entries.{entriesAt};
+ghost use Rattle.histories.specs.StableEntries.{entriesAt};
 ghost use Rattle.transcript.specs.Text.{LineRoom, EntriesRoom};
 
 // The word `zone`, the shard's number, and the entries of its stable history.

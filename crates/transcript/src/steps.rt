@@ -1,12 +1,14 @@
 // The lines of the steps: each step of the log is read, tried and printed.
 use crate::number::write_newline;
 use crate::number::write_spaced;
-use log::long::is_long_add;
-use log::short::is_short;
+use decimal_text::decimal::write_decimal;
 use machine::step_inside;
-use model::Reading;
-use model::Stop;
-use text_parts::number::write_number;
+use quick_reader::long;
+use quick_reader::long::is_long_add;
+use quick_reader::short;
+use quick_reader::short::is_short;
+use types::Reading;
+use types::Stop;
 ghost use mathlib.Core.Path.{_≡_};
 ghost use Prim.Native.Nat.{_+_, _≤_};
 ghost use lib.ListN.{length};
@@ -41,11 +43,11 @@ pub fn write_steps(state: &mut [u64], log: &[u8], out: &mut [u8]) -> Printed
     let mut end: usize = 0;
     while tried < BUDGET {
         let reading = if is_short(log, at) {
-            log::short::reading(log, at)
+            short::reading(log, at)
         } else if is_long_add(log, at) {
-            log::long::reading(log, at)
+            long::reading(log, at)
         } else {
-            log::reader::read_step(log, at)
+            log_reader::read_step(log, at)
         };
         match reading {
             Reading::Step { step, next } => {
@@ -78,7 +80,7 @@ fn write_line(out: &mut [u8], at: usize, n: u64, kind: u64, answer: u64) -> usiz
     ensures { λ r. ⌜ r ≡ at + length (stepLine n kind answer) ⌝ }
     ensures { λ _. ⌜ now (out .exit) ≡ sets (now (out .entry)) at (stepLine n kind answer) ⌝ }
 {
-    let a = write_number(out, at, n);
+    let a = write_decimal(out, at, n);
     let b = write_spaced(out, a, kind);
     let c = write_spaced(out, b, answer);
     write_newline(out, c)

@@ -2,7 +2,7 @@
 use crate::last::write_last;
 use crate::shards::write_shard;
 use crate::steps::write_steps;
-use text_parts::bytes::write_bytes;
+use decimal_text::bytes::write_bytes;
 ghost use mathlib.Core.Path.{_≡_};
 ghost use Prim.Native.Nat.{_≤_};
 ghost use lib.ListN.{length};

@@ -1,11 +1,4 @@
--- The laws that the proofs of the functions cite.
-pub mod Zeros
-pub mod Words
-pub mod Heads
-pub mod Configurations
-pub mod Origins
+-- Laws of the words of a shard, of the sequencers in a state, and of the seven lengths.
 pub mod Shards
-pub mod Takes
-pub mod Shapes
-pub mod Lengths
-pub mod Marks
+pub mod SpacedSequencers
+pub mod SevenLengths

@@ -11,10 +11,10 @@ use Rattle.model.specs.Tests.{allBelow}
 use Rattle.model.specs.Layout.{headPlace, headWord}
 use Rattle.model.specs.WellFormed.{isSequencer, isConfigurationOf, isShard}
 use Rattle.model.proofs.Ranges.{alike}
-use Rattle.wellformed.specs.Shapes.{zeros}
-use Rattle.wellformed.proofs.Zeros.{zeros-at}
+use Rattle.wellformed_entries.specs.Zeros.{zeros}
+use Rattle.wellformed_entries.proofs.Zeros.{zeros-at}
 use Rattle.model.proofs.Heads.{sequencer-word, installed-word}
-use Rattle.wellformed.proofs.Configurations.{countWord}
+use Rattle.wellformed_configurations.proofs.Configurations.{countWord}
 
 -- the head words past those of the configurations
 abbrev pub restWords : List ℕ → ℕ → List ℕ

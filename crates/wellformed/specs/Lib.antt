@@ -1,5 +1,3 @@
--- What the functions of this crate require.
-pub mod Spaced
-pub mod Before
-pub mod Shapes
-pub mod Lengths
+-- What the functions of this crate require and answer beyond the definitions of `model`.
+pub mod SpacedWords
+pub mod SevenLengths

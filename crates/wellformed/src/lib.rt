@@ -1,16 +1,11 @@
 // The whole check of a state: its length, and then well-formedness, shard by shard.
-use model::layout::SHARD_WORDS;
+use types::layout::SHARD_WORDS;
 ghost use mathlib.Core.Path.{_≡_};
 ghost use Rattle.model.specs.Layout.{shardsOf};
 ghost use Rattle.model.specs.WellFormed.{wellFormed};
 ghost use Rattle.model.specs.Replay.{replayRejection};
-ghost use Rattle.wellformed.specs.Lengths.{chosen};
+ghost use Rattle.wellformed.specs.SevenLengths.{chosen};
 
-mod configuration;
-pub mod entry;
-pub mod members;
-mod origin;
-mod replica;
 pub mod sequencer;
 pub mod shard;
 

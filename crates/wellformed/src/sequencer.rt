@@ -6,7 +6,7 @@ ghost use lib.Dec.{eqb};
 ghost use lib.ListN.{getD};
 ghost use Rattle.model.specs.Tests.{allBelow};
 ghost use Rattle.model.specs.WellFormed.{allDiffer};
-ghost use Rattle.wellformed.specs.Spaced.{Spaced};
+ghost use Rattle.wellformed.specs.SpacedWords.{Spaced};
 
 // Whether the words at a distance from each other, below the a-th, are others than q.
 fn differs_below(words: &[u64], distance: usize, a: usize, q: u64) -> bool

@@ -1,10 +1,10 @@
 // A shard: its sequencer, its count of configurations, these, and the rest of its head words.
-use crate::configuration;
-use crate::replica;
-use model::layout::INSTALLED;
-use model::layout::REST;
-use model::layout::REST_WORDS;
-use model::layout::SHARD_WORDS;
+use types::layout::INSTALLED;
+use types::layout::REST;
+use types::layout::REST_WORDS;
+use types::layout::SHARD_WORDS;
+use wellformed_configurations::configuration;
+use wellformed_entries::zero::all_zero;
 ghost use mathlib.Core.Path.{_≡_};
 ghost use Prim.Native.Nat.{_+_, _*_, _≤_};
 ghost use lib.ListN.{length};
@@ -40,7 +40,7 @@ pub fn is_shard(state: &[u64], shards: usize, z: usize) -> bool
     }
     let first = at + REST;
     let end = first + REST_WORDS;
-    if !replica::all_zero(&state[first..end]) {
+    if !all_zero(&state[first..end]) {
         return false;
     }
     configuration::all_configurations(state, shards, z)

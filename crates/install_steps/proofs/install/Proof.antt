@@ -1,6 +1,6 @@
 -- `install_steps::install` meets its contract.
 use native.Mathlib.Omega.{arith}
-use Rattle.model.specs.declared.kind.Kind.the-variants.{Install}
+use Rattle.types.specs.declared.kind.Kind.the-variants.{Install}
 use Rattle.lookup.proofs.KindAnswers.{out-of-range}
 use Rattle.install_steps.proofs.InstallReads.{installed-few}
 use Rattle.install_steps.proofs.Wedges.{first-ready}

@@ -3,7 +3,8 @@ use Prim.Native.Nat.{_+_, _*_}
 use native.Mathlib.Omega.{arith}
 use mathlib.Core.Path.{_≡_}
 use lib.ListN.{getD}
-use Rattle.model.specs.Layout.{shardWords, headWords, configurationWords, partWords, members, orderer, place, headWord, headPlace}
+use Rattle.model.specs.Layout.{shardWords, headWords, configurationWords, members, orderer, place, headWord, headPlace}
+use Rattle.types.specs.ReplicaPlace.{partWords}
 use Rattle.model.specs.Configuration.{configuration}
 use borrow.Author.Needs.{needs}
 use Rattle.lookup.proofs.configuration_of.Statement.{statement}

@@ -2,12 +2,13 @@
 use Prim.Native.Nat.{ℕ}
 use mathlib.Core.Path.{_≡_, sym, ap, _∙_}
 use mathlib.Core.Bool.{Bool}
-use Rattle.model.specs.Members.{hasMember}
-use Rattle.model.specs.declared.configuration.Configuration.{Configuration}
+use Rattle.types.specs.Members.{hasMember}
+use Rattle.types.specs.declared.configuration.Configuration.{Configuration}
 use borrow.Author.Tests.{not-true, not-false}
-use Rattle.model.specs.Configuration.{configuration, replicaPlace}
-use Rattle.lookup.specs.Seats.{seatOf}
-use Rattle.lookup.proofs.Seats.{small-place, member-placed, start-placed}
+use Rattle.model.specs.Configuration.{configuration}
+use Rattle.types.specs.ReplicaPlace.{replicaPlace}
+use Rattle.lookup.specs.FoundReplicas.{foundOf}
+use Rattle.lookup.proofs.FoundReplicas.{small-place, member-placed, start-placed}
 use borrow.Author.Needs.{needs}
 use Rattle.lookup.proofs.find.Statement.{statement}
 use Rattle.lookup.proofs.find.Tie as tie
@@ -20,7 +21,7 @@ is-installed-requires : tie.Need-is-installed-requires
 is-installed-requires c κs = search needs
 
 returns : tie.Need-returns
-unfolding seatOf
+unfolding foundOf
 returns c =
     (simp (sym (c .before .is-installed .ensures) ∙ not-true _ (c .if1 .taken)), start-placed (c .before .before .before .pre .ready))
 
@@ -31,7 +32,7 @@ has-requires : tie.Need-has-requires
 has-requires c κs = search needs
 
 returns-2 : tie.Need-returns-2
-unfolding seatOf configuration
+unfolding foundOf configuration
 returns-2 c =
     let k = c .before .before in
     let i = k .before in
@@ -46,7 +47,7 @@ replica-requires c κs =
     (s .pre .host, rw (k .configuration-of .ensures) (small-place (s .pre .ready)))
 
 returns-3 : tie.Need-returns-3
-unfolding seatOf configuration
+unfolding foundOf configuration
 returns-3 c =
     let k = c .before .before .before in
     let i = k .before in

@@ -1,9 +1,10 @@
 -- `lookup::orderer_place` meets its contract.
 use mathlib.Core.Path.{ap, _∙_}
-use Rattle.model.specs.declared.configuration.Configuration.{Configuration}
-use Rattle.model.specs.Configuration.{configuration, replicaPlace}
+use Rattle.types.specs.declared.configuration.Configuration.{Configuration}
+use Rattle.model.specs.Configuration.{configuration}
+use Rattle.types.specs.ReplicaPlace.{replicaPlace}
 use Rattle.model.specs.Add.{ordererPlace}
-use Rattle.lookup.proofs.Seats.{small-place}
+use Rattle.lookup.proofs.FoundReplicas.{small-place}
 use Rattle.lookup.proofs.Orderers.{ordered, orderer-placed}
 use borrow.Author.Needs.{needs}
 use Rattle.lookup.proofs.orderer_place.Statement.{statement}

@@ -1,15 +1,15 @@
 -- `machine::act` meets its contract.
 use mathlib.Core.Path.{refl, sym, ap, _∙_}
-use Rattle.model.specs.declared.configuration.Configuration.{Configuration}
-use Rattle.model.specs.Kinds.{namesHost}
+use Rattle.types.specs.declared.configuration.Configuration.{Configuration}
+use Rattle.types.specs.Kinds.{namesHost}
 use Rattle.model.specs.Configuration.{configuration}
 use Rattle.replica_steps.proofs.AddSteps as add-steps
-use Rattle.copy_steps.proofs.AdoptSteps as adopt-steps
-use Rattle.replica_steps.proofs.LearnSteps as learn-steps
-use Rattle.replica_steps.proofs.WedgeSteps as wedge-steps
+use Rattle.adopt_steps.proofs.AdoptSteps as adopt-steps
+use Rattle.learn_steps.proofs.LearnSteps as learn-steps
+use Rattle.wedge_steps.proofs.WedgeSteps as wedge-steps
 use Rattle.install_steps.proofs.InstallSteps as install-steps
-use Rattle.copy_steps.proofs.InheritSteps.{inheriting}
-use Rattle.copy_steps.proofs.CatchUpSteps.{catching-up}
+use Rattle.inherit_steps.proofs.InheritSteps.{inheriting}
+use Rattle.inherit_steps.proofs.CatchUpSteps.{catching-up}
 use Rattle.machine.proofs.ByKind.{least, ready, by-numbers, orders, by-host, kept-for-later, no-kind}
 use borrow.Author.Needs.{needs}
 use Rattle.machine.proofs.act.Statement.{statement}

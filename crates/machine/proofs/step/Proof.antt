@@ -1,7 +1,7 @@
 -- `machine::step` meets its contract.
 use mathlib.Core.Path.{sym, _∙_}
 use borrow.Author.Tests.{not-false}
-use Rattle.arguments.proofs.Ranges.{known}
+use Rattle.step_numbers.proofs.StepRanges.{known}
 use Rattle.lookup.proofs.Formed.{formed-of}
 use Rattle.machine.proofs.Ladders.{rejects-length, rejects-early, rejects-numbers, rejects-form}
 use borrow.Author.Needs.{needs}

@@ -3,8 +3,8 @@ use Prim.Native.Nat.{ℕ, _≤_}
 use mathlib.Core.Path.{_≡_}
 use mathlib.Core.List.{List}
 use lib.ListN.{length}
-use Rattle.model.specs.declared.Writing.{Writing}
-use Rattle.model.specs.declared.Writing.the-variants.{Bytes}
+use Rattle.types.specs.declared.Writing.{Writing}
+use Rattle.types.specs.declared.Writing.the-variants.{Bytes}
 use Rattle.model.specs.Results.{writingCount}
 use Rattle.transcript.specs.Text.{textCount, afterText}
 use Rattle.transcript.proofs.Delivery.{fits-output, text-kept}

@@ -5,8 +5,8 @@ use mathlib.Core.Path.{sym, _∙_}
 use mathlib.Core.Logic.{inl, inr}
 use lib.ListN.{length}
 use borrow.Author.Tests.{not-true, not-false}
-use Rattle.records.specs.Csv.{csv}
-use Rattle.records.specs.Room.{FormedOf}
+use Rattle.csv_rows.specs.Csv.{csv}
+use Rattle.csv_rows.specs.Room.{FormedOf}
 use Rattle.records.proofs.StateText.{csv-by-shards, few-shards}
 use Rattle.records.proofs.CsvAnswers.{passed, rejects-length, rejects-form, rejects-room, writes}
 use borrow.Author.Needs.{needs}

@@ -1,11 +1,8 @@
 -- `step_vectors::fill` meets its contract.
-use Prim.Native.Nat.{_≤_, _-_}
-use mathlib.Core.Path.{_≡_, _∙_}
-use lib.ListN.{length}
+use Prim.Native.Nat.{_≤_, _-_, _≤_, _-_}
+use mathlib.Core.Path.{_≡_, _∙_, _≡_, _∙_}
+use lib.ListN.{length, length}
 use borrow.Author.Needs.{needs}
-use Prim.Native.Nat.{_≤_, _-_}
-use mathlib.Core.Path.{_≡_, _∙_}
-use lib.ListN.{length}
 use Rattle.step_vectors.proofs.fill.Statement.{statement}
 use Rattle.step_vectors.proofs.fill.Tie as tie
 

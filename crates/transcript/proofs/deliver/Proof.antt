@@ -1,6 +1,6 @@
 -- `transcript::deliver` meets its contract.
 use lib.ListN.{take}
-use Rattle.text_parts.proofs.Stores.{sets-kept}
+use Rattle.decimal_text.proofs.ByteStores.{sets-kept}
 use Rattle.transcript.proofs.Delivery.{long, too-short, room, delivered}
 use mathlib.Core.Path.{sym}
 use Rattle.transcript.proofs.deliver.Statement.{statement}

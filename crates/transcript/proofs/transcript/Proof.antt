@@ -2,7 +2,7 @@
 use mathlib.Core.Path.{ap, _∙_}
 use lib.ListN.{length}
 use Rattle.model.specs.Transcript.{transcript}
-use Rattle.text_parts.proofs.Stores.{sets-kept}
+use Rattle.decimal_text.proofs.ByteStores.{sets-kept}
 use Rattle.transcript.proofs.Delivery.{any-fits, told, written, text-kept, space-fits, written-room, written-text}
 use borrow.Author.Needs.{needs}
 use Rattle.transcript.proofs.transcript.Statement.{statement}

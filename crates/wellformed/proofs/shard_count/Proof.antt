@@ -2,8 +2,8 @@
 use Prim.Native.Nat.{ℕ, _+_, _≤_}
 use native.Mathlib.Omega.{arith}
 use mathlib.Core.Path.{_≡_}
-use Rattle.wellformed.specs.Lengths.{chosen}
-use Rattle.wellformed.proofs.Lengths.{chosen-most, seven-in-a-row}
+use Rattle.wellformed.specs.SevenLengths.{chosen}
+use Rattle.wellformed.proofs.SevenLengths.{chosen-most, seven-in-a-row}
 use borrow.Author.Needs.{needs}
 use Rattle.wellformed.proofs.shard_count.Statement.{statement}
 use Rattle.wellformed.proofs.shard_count.Tie as tie

@@ -1,6 +1,6 @@
 -- `wellformed::shards_of` meets its contract.
 use borrow.Author.Tests.{eq-eqb, ne-eqb}
-use Rattle.wellformed.specs.Lengths.{chosen}
+use Rattle.wellformed.specs.SevenLengths.{chosen}
 use Rattle.wellformed.proofs.shards_of.Statement.{statement}
 use Rattle.wellformed.proofs.shards_of.Tie as tie
 

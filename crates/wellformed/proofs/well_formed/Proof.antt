@@ -3,7 +3,7 @@ use mathlib.Core.Path.{sym, _∙_}
 use borrow.Author.Tests.{not-true, not-false}
 use Rattle.model.specs.WellFormed.{wellFormed}
 use Rattle.model.proofs.Lengths.{shards-fit}
-use Rattle.wellformed.proofs.Heads.{sequencers-spaced, sequencers-differ}
+use Rattle.wellformed.proofs.SpacedSequencers.{sequencers-spaced, sequencers-differ}
 use Rattle.wellformed.proofs.well_formed.Statement.{statement}
 use Rattle.wellformed.proofs.well_formed.Tie as tie
 

@@ -1,5 +1,10 @@
 //! Tables in Markdown.
 
+use std::fmt;
+
+/// The longest line of the text above a table.
+const WIDTH: usize = 120;
+
 pub struct Table {
     title: String,
     columns: Vec<&'static str>,
@@ -14,16 +19,37 @@ impl Table {
     pub fn row(&mut self, cells: &[String]) {
         self.rows.push(cells.to_vec());
     }
+}
 
-    pub fn print(&self) {
-        println!("{}\n", self.title);
-        println!("| {} |", self.columns.join(" | "));
-        println!("|{}", "---|".repeat(self.columns.len()));
-        for row in &self.rows {
-            println!("| {} |", row.join(" | "));
+impl fmt::Display for Table {
+    fn fmt(&self, f: &mut fmt::Formatter<'_>) -> fmt::Result {
+        for line in self.title.lines() {
+            writeln!(f, "{}", wrapped(line))?;
         }
-        println!();
+        writeln!(f, "\n| {} |", self.columns.join(" | "))?;
+        writeln!(f, "|{}", "---|".repeat(self.columns.len()))?;
+        for row in &self.rows {
+            writeln!(f, "| {} |", row.join(" | "))?;
+        }
+        Ok(())
     }
+}
+
+/// A text in lines of at most so many characters.
+fn wrapped(text: &str) -> String {
+    let (mut lines, mut width) = (String::new(), 0);
+    for word in text.split_whitespace() {
+        let length = word.chars().count();
+        let (gap, before) = match width {
+            0 => ("", 0),
+            width if width + 1 + length <= WIDTH => (" ", width + 1),
+            _ => ("\n", 0),
+        };
+        lines += gap;
+        lines += word;
+        width = before + length;
+    }
+    lines
 }
 
 /// Nanoseconds, with a digit more where they are few.
@@ -35,7 +61,8 @@ pub fn ns(time: f64) -> String {
 }
 
 /// The columns of three sides, and what they hold.
-pub const SIDES: [&str; 5] = ["proved", "plain", "tuned", "proved/plain", "proved/tuned"];
+pub const SIDES: [&str; 5] =
+    ["proved, ns", "plain, ns", "tuned, ns", "proved/plain", "proved/tuned"];
 
 pub fn sides([proved, plain, tuned]: [f64; 3]) -> [String; 5] {
     [ns(proved), ns(plain), ns(tuned), ratio(proved, plain), ratio(proved, tuned)]

@@ -2,7 +2,7 @@
 use mathlib.Core.Path.{_∙_}
 use lib.ListN.{length}
 use borrow.Author.Needs.{needs}
-use Rattle.records.specs.Csv.{csv, csvRejection, csvWriting}
+use Rattle.csv_rows.specs.Csv.{csv, csvRejection, csvWriting}
 use Rattle.capi.specs.Spreadsheets.{csvAnswer, csvAfter, csvLengthAfter}
 use Rattle.capi.proofs.Counts.{no-word, counted, writing-word}
 use Rattle.capi.proofs.spreadsheets.penkwadar_csv.Statement.{statement}

@@ -7,12 +7,12 @@ use lib.ListN.{length, drop, length-drop}
 use lib.Seq.{take-all}
 use Rattle.model.specs.Log.{stepOf, readStep, from}
 use Rattle.model.specs.Results.{readingNumber, readingStep, readingNext}
-use Rattle.log.specs.Long.{isLongAddAt}
-use Rattle.log.specs.Short.{isShortAt}
-use Rattle.log.proofs.LongAdds.{long-read}
-use Rattle.log.proofs.ShortSteps.{short-read}
-use Rattle.log.proofs.StepParts.{step-none, step-from, step-inside}
-use Rattle.capi.specs.Steps.{stepWords}
+use Rattle.quick_reader.specs.Long.{isLongAddAt}
+use Rattle.quick_reader.specs.Short.{isShortAt}
+use Rattle.quick_reader.proofs.LongAdds.{long-read}
+use Rattle.quick_reader.proofs.ShortSteps.{short-read}
+use Rattle.log_reader.proofs.StepParts.{step-none, step-from, step-inside}
+use Rattle.capi.specs.StepOutputs.{stepWords}
 use Rattle.capi.proofs.StepWords.{read-short, read, read-told, read-rejected}
 use borrow.Author.Needs.{needs}
 use Rattle.capi.proofs.steps.penkwadar_read_step.Statement.{statement}

@@ -1,7 +1,7 @@
 -- `capi::usual::put_long_add` meets its contract. Assumes nothing.
 use native.Mathlib.Omega.{arith}
-use Rattle.log.proofs.LongAdds.{long-fits, long-length-most}
-use Rattle.capi.specs.Steps.{stepWords}
+use Rattle.quick_reader.proofs.LongAdds.{long-fits, long-length-most}
+use Rattle.capi.specs.StepOutputs.{stepWords}
 use borrow.Author.Needs.{needs}
 use Rattle.capi.proofs.usual.put_long_add.Statement.{statement}
 use Rattle.capi.proofs.usual.put_long_add.Tie as tie

@@ -1,7 +1,7 @@
 -- `capi::usual::put_short` meets its contract. Assumes nothing.
 use native.Mathlib.Omega.{arith}
-use Rattle.log.proofs.ShortSteps.{short-fits, short-length-most}
-use Rattle.capi.specs.Steps.{stepWords}
+use Rattle.quick_reader.proofs.ShortSteps.{short-fits, short-length-most}
+use Rattle.capi.specs.StepOutputs.{stepWords}
 use borrow.Author.Needs.{needs}
 use Rattle.capi.proofs.usual.put_short.Statement.{statement}
 use Rattle.capi.proofs.usual.put_short.Tie as tie

@@ -1,6 +1,6 @@
 -- `capi::words::put_listing` meets its contract.
 use Rattle.histories.specs.Listing.{listingNumber}
-use Rattle.capi.specs.Words.{listingWord}
+use Rattle.capi.specs.WordOutputs.{listingWord}
 use borrow.Author.Needs.{needs}
 use Rattle.capi.proofs.words.put_listing.Statement.{statement}
 use Rattle.capi.proofs.words.put_listing.Tie as tie

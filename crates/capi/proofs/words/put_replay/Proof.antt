@@ -1,6 +1,6 @@
 -- `capi::words::put_replay` meets its contract.
 use Rattle.model.specs.Results.{stopNumber, stopCode}
-use Rattle.capi.specs.Words.{wordsBy, reportedWords}
+use Rattle.capi.specs.WordOutputs.{wordsBy, reportedWords}
 use borrow.Author.Needs.{needs}
 use Rattle.capi.proofs.words.put_replay.Statement.{statement}
 use Rattle.capi.proofs.words.put_replay.Tie as tie

@@ -1,6 +1,6 @@
 -- `capi::words::put_writing` meets its contract.
 use Rattle.model.specs.Results.{writingNumber}
-use Rattle.capi.specs.Words.{writingWord}
+use Rattle.capi.specs.WordOutputs.{writingWord}
 use borrow.Author.Needs.{needs}
 use Rattle.capi.proofs.words.put_writing.Statement.{statement}
 use Rattle.capi.proofs.words.put_writing.Tie as tie

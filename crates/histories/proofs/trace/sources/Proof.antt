@@ -1,6 +1,6 @@
 -- `histories::trace::sources` meets its contract. The loop's invariant: the hosts found so far are the first of the trace.
 use native.Mathlib.Omega.{arith}
-use Rattle.lookup.proofs.Seats.{small-place}
+use Rattle.lookup.proofs.FoundReplicas.{small-place}
 use Rattle.histories.proofs.Traces.{Walked, walk-start, walk-at, walk-more, walk-end, place-within, origin-least, host-read}
 use Rattle.histories.proofs.trace.sources.Statement.{statement}
 use Rattle.histories.proofs.trace.sources.Tie as tie

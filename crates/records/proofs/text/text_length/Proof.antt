@@ -3,9 +3,9 @@ use Prim.Native.Nat.{_-_}
 use native.Mathlib.Omega.{arith}
 use lib.ListN.{length}
 use borrow.Author.Needs.{needs}
-use Rattle.text_parts.proofs.PartLoops.{Measured, measure-room, measure-next, measure-end}
-use Rattle.records.specs.Csv.{csv}
-use Rattle.records.proofs.TextParts.{shardsLeft, shard-parts}
+use Rattle.decimal_text.proofs.PartLoops.{Measured, measure-room, measure-next, measure-end}
+use Rattle.csv_rows.specs.Csv.{csv}
+use Rattle.csv_rows.proofs.TextParts.{shardsLeft, shard-parts}
 use Rattle.records.proofs.StateText.{of-shard, csv-most, measure-start}
 use Rattle.records.proofs.text.text_length.Statement.{statement}
 use Rattle.records.proofs.text.text_length.Tie as tie

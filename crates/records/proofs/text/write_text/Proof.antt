@@ -5,10 +5,10 @@ use mathlib.Core.Path.{subst}
 use mathlib.Core.List.{List, [], _++_}
 use borrow.Author.Needs.{needs}
 use Rattle.model.proofs.Progress.{Progress, progress-first, progress-next, progress-room, progress-last, progress-end}
-use Rattle.text_parts.proofs.PartLoops.{Written, write-part-room, write-part-next, write-part-end}
-use Rattle.records.specs.Format.{rowText}
-use Rattle.records.specs.Csv.{header, csv}
-use Rattle.records.proofs.TextParts.{shardsLeft, shard-parts}
+use Rattle.decimal_text.proofs.PartLoops.{Written, write-part-room, write-part-next, write-part-end}
+use Rattle.csv_rows.specs.Format.{rowText}
+use Rattle.csv_rows.specs.Csv.{header, csv}
+use Rattle.csv_rows.proofs.TextParts.{shardsLeft, shard-parts}
 use Rattle.records.proofs.StateText.{of-shard, csv-parts}
 use Rattle.records.proofs.text.write_text.Statement.{statement}
 use Rattle.records.proofs.text.write_text.Tie as tie

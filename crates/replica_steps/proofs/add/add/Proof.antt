@@ -1,7 +1,7 @@
 -- `replica_steps::add::add` meets its contract.
 use native.Mathlib.Omega.{arith}
 use lib.ListN.{length-set}
-use Rattle.model.specs.declared.kind.Kind.the-variants.{Add}
+use Rattle.types.specs.declared.kind.Kind.the-variants.{Add}
 use Rattle.lookup.proofs.KindAnswers.{out-of-range}
 use Rattle.replica_steps.proofs.AddSteps.{known, named, proper, nowhere, holds-it, not-active, not-sequencer, against, full, done}
 use borrow.Author.Needs.{needs}

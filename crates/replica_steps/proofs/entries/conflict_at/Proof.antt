@@ -5,7 +5,7 @@ use mathlib.Core.Path.{ap, _∙_}
 use mathlib.Core.List.{List}
 use borrow.Author.Needs.{needs}
 use Rattle.model.specs.Checks.{firstOf}
-use Rattle.lookup.proofs.Words.{length-few}
+use Rattle.lookup.proofs.StateWords.{length-few}
 use Rattle.replica_steps.specs.Adds.{heldChecks}
 use Rattle.replica_steps.proofs.Conflicts.{in-history}
 use Rattle.replica_steps.proofs.entries.conflict_at.Statement.{statement}

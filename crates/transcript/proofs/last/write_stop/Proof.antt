@@ -1,7 +1,7 @@
 -- `transcript::last::write_stop` meets its contract.
 use mathlib.Core.List.{_++_}
 use Rattle.model.specs.Transcript.{spaced, endedWord, spentWord, damagedWord, rejectedWord}
-use Rattle.text_parts.proofs.Stores.{sets-kept}
+use Rattle.decimal_text.proofs.ByteStores.{sets-kept}
 use Rattle.transcript.proofs.StopTexts.{ended-text, spent-text, damaged-text, rejected-text}
 use borrow.Author.Needs.{needs}
 use Rattle.transcript.proofs.last.write_stop.Statement.{statement}

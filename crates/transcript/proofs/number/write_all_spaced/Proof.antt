@@ -5,7 +5,7 @@ use native.Mathlib.Omega.{arith}
 use borrow.Author.Needs.{needs}
 use Rattle.model.specs.Transcript.{spacedAll}
 use Rattle.model.proofs.Progress.{progress-first}
-use Rattle.text_parts.proofs.PartLoops.{Written, write-part-room, write-part-next, write-part-end}
+use Rattle.decimal_text.proofs.PartLoops.{Written, write-part-room, write-part-next, write-part-end}
 use Rattle.transcript.proofs.Spaced.{numbersLeft, spaced-parts}
 use Rattle.transcript.proofs.number.write_all_spaced.Statement.{statement}
 use Rattle.transcript.proofs.number.write_all_spaced.Tie as tie

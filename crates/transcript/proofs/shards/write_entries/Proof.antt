@@ -1,8 +1,8 @@
 -- `transcript::shards::write_entries` meets its contract.
 use Rattle.model.specs.Transcript.{spacedAll}
-use Rattle.histories.specs.Entries.{entriesAt}
+use Rattle.histories.specs.StableEntries.{entriesAt}
 use Rattle.histories.proofs.Stable.{entries-part}
-use Rattle.text_parts.proofs.Stores.{sets-kept}
+use Rattle.decimal_text.proofs.ByteStores.{sets-kept}
 use borrow.Author.Needs.{needs}
 use Rattle.transcript.proofs.shards.write_entries.Statement.{statement}
 use Rattle.transcript.proofs.shards.write_entries.Tie as tie

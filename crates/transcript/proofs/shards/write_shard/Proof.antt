@@ -3,7 +3,7 @@ use Prim.Native.Nat.{ℕ}
 use mathlib.Core.Path.{subst}
 use mathlib.Core.List.{List, [], _++_}
 use Rattle.model.specs.Transcript.{spaced, spacedAll, newline, zoneWord, shardLine}
-use Rattle.histories.specs.Entries.{entriesAt}
+use Rattle.histories.specs.StableEntries.{entriesAt}
 use Rattle.model.proofs.Progress.{Progress, progress-first, progress-next, progress-room, progress-last, progress-end}
 use Rattle.transcript.proofs.ShardText.{shard-text, entries-room}
 use borrow.Author.Needs.{needs}

@@ -8,7 +8,7 @@ use Rattle.transcript.proofs.steps.write_line.Statement.{statement}
 use Rattle.transcript.proofs.steps.write_line.Tie as tie
 
 -- the function's entry, from the place after each part
-abbrev entry-1 : tie.After-write-number → tie.Start
+abbrev entry-1 : tie.After-write-decimal → tie.Start
 entry-1 c = c .before .before .before
 
 abbrev entry-2 : tie.After-write-spaced → tie.Start
@@ -35,10 +35,10 @@ at-number : (s : tie.Start) → Left s (s .args .out .now) (s .args .at) (decima
 unfolding stepLine
 at-number s = progress-first _ _ _ (s .pre)
 
-at-kind : (c : tie.After-write-number) → let s = entry-1 c in Left s (c .write-number .last .0) (c .write-number .result) (from-kind s)
+at-kind : (c : tie.After-write-decimal) → let s = entry-1 c in Left s (c .write-decimal .last .0) (c .write-decimal .result) (from-kind s)
 at-kind c =
     let s = entry-1 c in
-    progress-next (decimal (s .args .n)) (from-kind s) (at-number s) (c .write-number .ensures)
+    progress-next (decimal (s .args .n)) (from-kind s) (at-number s) (c .write-decimal .ensures)
 
 at-answer : (c : tie.After-write-spaced) → let s = entry-2 c in Left s (c .write-spaced .last .0) (c .write-spaced .result) (from-answer s)
 at-answer c =
@@ -54,8 +54,8 @@ done : (c : tie.After-write-newline) → let s = entry-4 c in Left s (c .write-n
 done c =
     progress-last (at-end (c .before .before .before .before)) (c .write-newline .ensures)
 
-write-number-requires : tie.Need-write-number-requires
-write-number-requires c κs =
+write-decimal-requires : tie.Need-write-decimal-requires
+write-decimal-requires c κs =
     let s = c .before .before in
     progress-room (decimal (s .args .n)) (from-kind s) (at-number s)
 
@@ -84,7 +84,7 @@ pub write-line-spec : {M : Type 1} → statement M
 write-line-spec =
     tie.close
     (tie.spec
-    write-number-requires
+    write-decimal-requires
     write-spaced-requires
     write-spaced-requires-2
     write-newline-requires

@@ -2,7 +2,7 @@
 use native.Mathlib.Omega.{arith}
 use mathlib.Core.List.{_++_}
 use Rattle.model.specs.Transcript.{newline, tooLongWords, lines}
-use Rattle.text_parts.proofs.Stores.{sets-kept}
+use Rattle.decimal_text.proofs.ByteStores.{sets-kept}
 use Rattle.transcript.proofs.WholeText.{text-too-long, text-lines}
 use borrow.Author.Needs.{needs}
 use Rattle.transcript.proofs.text.write_text.Statement.{statement}

@@ -45,7 +45,7 @@ returns c =
     fails _ (c .before .before .before .before .loop .a) _ (search needs) (sym (not-true _ (c .if1 .taken)) ∙ c .before .differs-below .ensures)
 
 add-a : tie.Need-add-a Inv-loop μ-loop
-add-a c = search needs
+add-a c = omega arith
 
 loop-less : tie.Need-loop-less Inv-loop μ-loop
 loop-less c = search needs

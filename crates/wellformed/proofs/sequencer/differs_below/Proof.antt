@@ -35,7 +35,7 @@ returns : tie.Need-returns Inv-loop μ-loop
 returns c = fails _ (c .before .before .before .loop .b) _ (search needs) (sym (ap not (eq-eqb _ _ (c .if1 .taken))))
 
 add-b : tie.Need-add-b Inv-loop μ-loop
-add-b c = search needs
+add-b c = omega arith
 
 loop-less : tie.Need-loop-less Inv-loop μ-loop
 loop-less c = search needs

@@ -52,10 +52,10 @@ sub-all-zero : tie.Need-sub-all-zero
 sub-all-zero c = omega arith
 
 part-all-zero-start : tie.Need-part-all-zero-start
-part-all-zero-start c = search needs
+part-all-zero-start c = omega arith
 
 part-all-zero-end : tie.Need-part-all-zero-end
-part-all-zero-end c = search needs
+part-all-zero-end c = omega arith
 
 all-zero-requires : tie.Need-all-zero-requires
 all-zero-requires c κs = tt

@@ -1,2 +1,0 @@
--- What the tests of a step's numbers answer.
-pub mod Numbers

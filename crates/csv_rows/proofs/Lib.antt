@@ -1,0 +1,3 @@
+-- Laws of the text's parts.
+pub mod RowTexts
+pub mod TextParts

@@ -1,0 +1,2 @@
+-- What the functions inside this crate answer: a step read in parts.
+pub mod ReadInParts

@@ -1,0 +1,2 @@
+-- What the functions of this crate require and answer.
+pub mod RejectionHosts

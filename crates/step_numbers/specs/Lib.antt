@@ -1,0 +1,2 @@
+-- What the tests of a step's numbers answer.
+pub mod StepRanges

@@ -1,4 +1,0 @@
-// What texts are made of: bytes, and numbers in decimal, written to an output one after the other.
-
-pub mod bytes;
-pub mod number;

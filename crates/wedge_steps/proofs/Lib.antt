@@ -1,0 +1,2 @@
+-- Laws of a wedge.
+pub mod WedgeSteps

@@ -1,0 +1,3 @@
+-- Laws of the words of a configuration.
+pub mod KnownEntries
+pub mod Configurations

@@ -1,0 +1,3 @@
+// The configurations of a shard.
+
+pub mod configuration;

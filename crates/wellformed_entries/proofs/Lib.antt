@@ -1,0 +1,4 @@
+-- Laws of entries, and of words that are all 0.
+pub mod Zeros
+pub mod Takes
+pub mod Marks

@@ -1,0 +1,2 @@
+-- Laws of the words that origins are told from.
+pub mod OriginWords

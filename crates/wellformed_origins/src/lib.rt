@@ -1,0 +1,3 @@
+// Where the replicas of a configuration began.
+
+pub mod origin;

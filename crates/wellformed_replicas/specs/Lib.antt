@@ -1,0 +1,2 @@
+-- What the functions of this crate answer beyond the definitions of `model`.
+pub mod Shapes

@@ -1,0 +1,3 @@
+// The words of a replica.
+
+pub mod replica;
