@@ -31,7 +31,8 @@ use Rattle.model.proofs.InstallNext.{next-length, next-other, next-inst
 use Rattle.model.proofs.WellFormedInstall.{old-vacant, issue-proper, wedged-tells, next-index}
 use Rattle.model.proofs.ProperReplicas.{immutable-mode}
 use Rattle.model.proofs.Safe.{Safe, Wedged}
-use Rattle.model.proofs.SafeChange.{From, stood, Count, as-many, one-more, There, had, got, there, SafeChange, formed, each-shard, inv-same, wedged-stays}
+use Rattle.model.proofs.SafeChange.{From, stood, Count, as-many, one-more, There, had, got, there}
+use Rattle.model.proofs.SafeChange.{SafeChange, formed, each-shard, inv-same, wedged-stays}
 
 -- a count does not go down, and says the same of another who gets one
 count-up : {A : Type 0} {n n′ : ℕ} → Count A n n′ → n ≤ n′

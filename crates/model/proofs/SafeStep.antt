@@ -79,7 +79,8 @@ module _ (s : Step) (offers : ℕ → List ℕ) where
   unfolding offersAfter isAddIn contains
   add-offers e = rw (kind-is-add (s .kind), e, eq-eqb (shardOf s) (shardOf s) refl, eq-eqb (s .c) (s .c) refl)
 
-kept-as : {gets : ℕ → Type 0} {w w′ : List ℕ} {offers o o′ : ℕ → List ℕ} → ((z : ℕ) → o′ z ≡ o z) → SafeChange gets w offers w′ o → SafeChange gets w offers w′ o′
+kept-as : {gets : ℕ → Type 0} {w w′ : List ℕ} {offers o o′ : ℕ → List ℕ} → ((z : ℕ) → o′ z ≡ o z)
+    → SafeChange gets w offers w′ o → SafeChange gets w offers w′ o′
 kept-as e k =
     record {
       forward = k .forward;

@@ -25,7 +25,8 @@ returns-2 : tie.Need-returns-2
 returns-2 c =
     let s = c .before .before .before .before in
     let a = s .before .before .before .args in
-    reads-first _ (first-kind (a .log .now) (omega (arith, s .before .if1 .left)) (s .read-number .ensures) (c .before .before .value .given .1) (c .after-kind .ensures))
+    let read = c .before .before .value .given .1 in
+    reads-first _ (first-kind (a .log .now) (omega (arith, s .before .if1 .left)) (s .read-number .ensures) read (c .after-kind .ensures))
 
 returns-3 : tie.Need-returns-3
 returns-3 c =

@@ -1,4 +1,4 @@
--- `quick_reader::long::is_long_add` meets its contract: each exit fails a test that the definition has, and the last byte of the entry is left. Assumes nothing.
+-- `quick_reader::long::is_long_add` meets its contract: each exit fails a test of the definition, and the last byte of the entry is left. Assumes nothing.
 use Prim.Native.Nat.{_+_}
 use native.Mathlib.Omega.{arith}
 use lib.Bits.{bitOr}

@@ -1,4 +1,4 @@
--- `quick_reader::short::is_short` meets its contract: each exit fails a test that the definition has, and one test of the bytes joined is left. Assumes nothing.
+-- `quick_reader::short::is_short` meets its contract: each exit fails a test of the definition, and one test of the bytes joined is left. Assumes nothing.
 use native.Mathlib.Omega.{arith}
 use Rattle.model.proofs.Ranges.{not-passed}
 use Rattle.quick_reader.proofs.ShortSteps.{short-fits, short-kind-least, short-kind-most, short-joined}
