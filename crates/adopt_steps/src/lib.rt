@@ -1,5 +1,7 @@
-// Kind 2, adopt: a replica takes over the orderer's history. No entry point: the state is known to be well_formed_lem, and the step's shard and index to be
+// Kind 2, adopt: a replica takes over the orderer's history. No entry point: the state is known to be well-formed, and the step's shard and index to be
 // in range. The third and the fourth number are tested here (7).
+
+#![tactic(auto)]
 ghost use Rattle.std.specs.Prelude.{◌≡◌, min, max};
 ghost use Rattle.lookup.specs.KindContracts.{ReadyKind, kind_answer, kind_after};
 

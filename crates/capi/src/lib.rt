@@ -1,5 +1,7 @@
 // The machine for C, as `include/penkwadar.h` declares it: functions over borrowed buffers that ask nothing of their words.
 
+#![tactic(auto)]
+
 mod lists;
 mod replay_tallies;
 mod replays;

@@ -58,7 +58,7 @@ unfolding state_reading well_formed is_shard is_configuration_of is_head_of all_
     is_origin_of names_source names_member source
 form_testing = 0
 
--- what a step on a well_formed_lem state answers and leaves
+-- what a step on a well-formed state answers and leaves
 unfoldable pub step_trying : ℕ
 unfolding state_reading quick_answers quick_after_all quick_rejection quick_after
     first_of kind_of is_kept is_unknown shard_of configuration_of in_range are_numbers kind_checks effect kind_effect

@@ -5,7 +5,7 @@ use mathlib.Core.Bool.{cond}
 use mathlib.Core.List.{List, [], ◌∷◌, ◌++◌, append-nil}
 use lib.Dec.{ltb}
 use lib.ListN.{replicate}
-use Rattle.model.specs.Checks.{Check, first_of, ◌orElse◌}
+use Rattle.model.specs.Checks.{Check, first_of, ◌or_else◌}
 use Rattle.types.specs.Members.{has_member}
 use Rattle.model.specs.Replicas.{stable_prefix}
 use Rattle.model.specs.Layout.{shards_of, is_state_length, is_installed, members}
@@ -49,7 +49,7 @@ last_index_lem = effects.last_indices
 
 -- ---- the checks of a replica, and what comes after them
 
--- what is left to test of a state of two shards that is well_formed_lem
+-- what is left to test of a state of two shards that is well-formed
 replica_rest : List ℕ → ℕ → ℕ → ℕ → List Check → List Check
 replica_rest w z i h more = is_replica_name 2 z i h or_else 7 ∷ is_installed w z (i - 1) or_else 10 ∷ has_member (members w z (i - 1)) h or_else 11 ∷ more
 

@@ -1,4 +1,4 @@
--- On a well_formed_lem state what steps leave, count and print needs no test of the whole state, so that it computes quickly where the steps are written out.
+-- On a well-formed state what steps leave, count and print needs no test of the whole state, so that it computes quickly where the steps are written out.
 use Prim.Native.Nat.{ℕ, suc, ◌+◌}
 use mathlib.Core.Path.{◌≡◌, refl, sym, ap, ap₂, ◌∙◌}
 use mathlib.Core.Bool.{cond, ◌||◌}
@@ -89,7 +89,7 @@ quick_lines_lem {Z} {w} f (s ∷ ss) n =
     (quick_lines_lem (after_formed f s) ss (suc n))
     ∙ rw (quick_after_lem f s, quick_rejection_lem f s)
 
--- ---- rows on a well_formed_lem state w, which is u
+-- ---- rows on a well-formed state w, which is u
 
 module _ {w u : List ℕ} (f : WellFormed 2 w) (q : w ≡ u) where
   pub answers_by : (ss : List Step) {ns : List ℕ} → quick_answers 2 u ss ≡ ns → answers_from w ss ≡ ns

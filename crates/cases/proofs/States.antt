@@ -1,4 +1,4 @@
--- The states of the table: which are well_formed_lem, and which are not.
+-- The states of the table: which are well-formed, and which are not.
 use Prim.Native.Nat.{ℕ, ◌<◌}
 use native.Mathlib.Omega.{arith}
 use mathlib.Core.Path.{◌≡◌, refl}

@@ -31,7 +31,7 @@ from_start = answers_by start_formed refl
 after-replaced : (ss : List Step) {ns : List ℕ} → quick_answers 2 (changed program_start replaced_words) ss ≡ ns → answers_from after_replaced ss ≡ ns
 after-replaced = answers_by replaced_formed replaced_is
 
--- on the state that is not well_formed_lem
+-- on the state that is not well-formed
 on_ill : (s : Step) {n : ℕ} → cond (not (is_kept (kind_of s.kind))) (cond (not (is_unknown (kind_of s.kind))) (cond (in_range 2 s) 9 7) 4) 3 ≡ n
     → rejection ill_formed s ≡ n
 unfolding rejection step_checks first_of is_state_length

@@ -5,7 +5,7 @@ use Rattle.model.specs.WellFormed.{well_formed}
 use Rattle.cases.specs.CaseRows.{changed}
 use Rattle.cases.specs.States.{late}
 
--- `late` with these words from a place on is not well_formed_lem
+-- `late` with these words from a place on is not well-formed
 abbrev pub IllFormedWith : ℕ → List ℕ → Type 0
 IllFormedWith at ns = well_formed (changed late ((at, ns) ∷ [])) ≡ false
 

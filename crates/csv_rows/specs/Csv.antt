@@ -2,7 +2,7 @@
 use Rattle.std.specs.Prelude.{ℕ, cond, List, [], ◌∷◌, ◌++◌, eqb, length}
 use Rattle.types.specs.declared.Writing.{Writing}
 use Rattle.types.specs.declared.Writing.TheVariants.{Bytes, Rejected}
-use Rattle.model.specs.Checks.{first_of, ◌orElse◌}
+use Rattle.model.specs.Checks.{first_of, ◌or_else◌}
 use Rattle.model.specs.Entries.{is_issue}
 use Rattle.model.specs.Layout.{is_state_length}
 use Rattle.model.specs.WellFormed.{well_formed}

@@ -19,7 +19,7 @@ history_text z es = rows_text (history_rows z 0 es)
 unfoldable pub shard_text : List ℕ → ℕ → List ℕ
 shard_text w z = history_text z (stable_history w z)
 
--- a shard of a well_formed_lem state, with room for its rows
+-- a shard of a well-formed state, with room for its rows
 pub record ShardRoom (out : List ℕ) (at : ℕ) (w : List ℕ) (z : ℕ) : Type 0 where
   pub of : OfShard w z
   pub room : at + length (shard_text w z) ≤ length out
@@ -29,7 +29,7 @@ pub record RowsRoom (out : List ℕ) (at : ℕ) (w : List ℕ) (p z : ℕ) : Typ
   pub has : HasEntries w p
   pub room : at + length (history_text z (entries_at w p)) ≤ length out
 
--- a well_formed_lem state of n shards
+-- a well-formed state of n shards
 pub record FormedOf (w : List ℕ) (n : ℕ) : Type 0 where
   pub formed : Formed w
   pub shards : n ≡ shards_of (length w)

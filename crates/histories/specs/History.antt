@@ -1,6 +1,6 @@
 -- A shard's stable history, copied to an output: what the function answers and leaves.
 use Rattle.std.specs.Prelude.{ℕ, List, [], ◌∷◌, ltb, length}
-use Rattle.model.specs.Checks.{first_of, ◌orElse◌}
+use Rattle.model.specs.Checks.{first_of, ◌or_else◌}
 use Rattle.model.specs.Layout.{shards_of, is_state_length}
 use Rattle.model.specs.WellFormed.{well_formed}
 use Rattle.model.specs.StableHistory.{stable_history}

@@ -1,6 +1,6 @@
 -- A replica that a caller names by shard, index and host, and where it is in a state of which nothing is known yet.
 use Rattle.std.specs.Prelude.{ℕ, ◌-◌, Bool, cond, ◌&&◌, List, [], ◌∷◌, eqb, length}
-use Rattle.model.specs.Checks.{Check, first_of, ◌orElse◌}
+use Rattle.model.specs.Checks.{Check, first_of, ◌or_else◌}
 use Rattle.types.specs.Members.{is_host, has_member}
 use Rattle.model.specs.Layout.{shards_of, is_state_length, is_installed, members}
 use Rattle.model.specs.Configuration.{configuration}

@@ -43,7 +43,7 @@ unfoldable pub traced : List ℕ → ℕ → ℕ → ℕ → HostTrace
 traced w z i h =
     listed (trace_rejection w z i h) (cond (eqb (trace_rejection w z i h) 0) (trace_of w z (i - 1) h) [])
 
--- where the function inside begins: a member's replica that is not pending, in a well_formed_lem state
+-- where the function inside begins: a member's replica that is not pending, in a well-formed state
 pub record Started (w : List ℕ) (z j h : ℕ) : Type 0 where
   pub ready : ReadyHost w z j h
   pub there : is_installed w z j ≡ true

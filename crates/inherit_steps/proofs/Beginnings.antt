@@ -8,7 +8,7 @@ use mathlib.Core.List.{List, [], ◌∷◌}
 use lib.ListN.{get_or}
 use borrow.Author.Tests.{eq-eqb, ne_eqb}
 use Rattle.types.specs.declared.kind.Kind.{Kind}
-use Rattle.model.specs.Checks.{first_of, ◌orElse◌}
+use Rattle.model.specs.Checks.{first_of, ◌or_else◌}
 use Rattle.types.specs.Kinds.{names_host}
 use Rattle.types.specs.Rules.{Known, most_fourth}
 use Rattle.types.specs.Members.{has_member}

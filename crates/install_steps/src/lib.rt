@@ -1,5 +1,7 @@
-// Kind 5, install: the next configuration of a shard, issued in the history of its sequencer. No entry point: the state is known to be well_formed_lem,
+// Kind 5, install: the next configuration of a shard, issued in the history of its sequencer. No entry point: the state is known to be well-formed,
 // and the step's shard and index to be in range. The third and the fourth number are tested here (7).
+
+#![tactic(auto)]
 ghost use Rattle.std.specs.Prelude.{◌≡◌};
 ghost use Rattle.model.specs.Layout.{sequencer};
 ghost use Rattle.lookup.specs.Ready.{ReadyHost, Placed};

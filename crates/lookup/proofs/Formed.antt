@@ -1,4 +1,4 @@
--- A state that passed the tests of its length and its form is well_formed_lem, with a known number of shards.
+-- A state that passed the tests of its length and its form is well-formed, with a known number of shards.
 -- Assumes nothing.
 use Prim.Native.Nat.{ℕ}
 use mathlib.Core.Path.{◌≡◌, refl}

@@ -5,7 +5,7 @@ use native.Mathlib.Omega.{arith}
 use mathlib.Core.Path.{◌≡◌, refl, sym, ap, ◌∙◌}
 use mathlib.Core.Bool.{Bool, true, false}
 use mathlib.Core.List.{List, ◌∷◌}
-use Rattle.model.specs.Checks.{Check, first_of, ◌orElse◌}
+use Rattle.model.specs.Checks.{Check, first_of, ◌or_else◌}
 use Rattle.types.specs.Members.{has_member}
 use Rattle.model.specs.Layout.{is_installed, members, place, part, replica_at}
 use Rattle.model.specs.Replicas.{replica_words}

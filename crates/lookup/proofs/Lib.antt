@@ -1,4 +1,4 @@
--- Laws of well_formed_lem states, of their words, and of where replicas are.
+-- Laws of well-formed states, of their words, and of where replicas are.
 pub mod Formed
 pub mod ReadyFields
 pub mod StateWords

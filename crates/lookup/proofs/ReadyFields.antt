@@ -1,4 +1,4 @@
--- What a ready state is: well_formed_lem, with just the words of its replicas.
+-- What a ready state is: well-formed, with just the words of its replicas.
 -- Assumes nothing.
 use Prim.Native.Nat.{ℕ}
 use mathlib.Core.Path.{◌≡◌, refl}
@@ -16,11 +16,11 @@ use Rattle.model.proofs.WellFormed.{WellFormed, well_formed_lem}
 use Rattle.model.proofs.WellFormedParts.{part_is_words}
 use Rattle.lookup.specs.Ready.{Formed, Ready}
 
--- a ready state is well_formed_lem
+-- a ready state is well-formed
 pub formed : {w : List ℕ} → Formed w → WellFormed (shards_of (length w)) w
 formed {w} f = well_formed_lem w (shards_of (length w)) refl f.several f.formed
 
--- the words of a member's replica: a well_formed_lem state holds just those of the replica
+-- the words of a member's replica: a well-formed state holds just those of the replica
 pub member_words : {w : List ℕ} {z j : ℕ} → Ready w z j → (h : ℕ) → has_member (members w z j) h ≡ true
     → part w (replica_place (configuration w z j) h) ≡ replica_words (replica_at w (replica_place (configuration w z j) h))
 unfolding replica_at

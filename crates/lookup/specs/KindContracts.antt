@@ -1,12 +1,12 @@
--- A step of a kind on a well_formed_lem state, its shard and its index being in range: what it answers and leaves.
+-- A step of a kind on a well-formed state, its shard and its index being in range: what it answers and leaves.
 use Rattle.std.specs.Prelude.{ℕ, ◌≡◌, cond, List, ◌∷◌, eqb, length}
 use Rattle.types.specs.declared.kind.Kind.{Kind}
-use Rattle.model.specs.Checks.{first_of, ◌orElse◌}
+use Rattle.model.specs.Checks.{first_of, ◌or_else◌}
 use Rattle.model.specs.Layout.{shards_of}
 use Rattle.model.specs.Steps.{are_numbers, kind_checks, kind_effect}
 use Rattle.lookup.specs.Ready.{Ready}
 
--- a configuration j of a shard z, in a well_formed_lem state with its number of shards
+-- a configuration j of a shard z, in a well-formed state with its number of shards
 pub record ReadyKind (w : List ℕ) (shards z j : ℕ) : Type 0 where
   pub ready : Ready w z j
   pub count : shards ≡ shards_of (length w)

@@ -1,11 +1,11 @@
--- A state that is known to be well_formed_lem, and what a step names of it: a shard, a configuration, a host.
+-- A state that is known to be well-formed, and what a step names of it: a shard, a configuration, a host.
 use Rattle.std.specs.Prelude.{ℕ, ◌+◌, ◌*◌, ◌≤◌, ◌<◌, ◌≡◌, true, List, length}
 use Rattle.model.specs.Replicas.{replica_words}
 use Rattle.model.specs.Layout.{shard_words, shards_of, is_installed, part, replica_at}
 use Rattle.types.specs.ReplicaPlace.{part_words}
 use Rattle.model.specs.WellFormed.{well_formed}
 
--- a well_formed_lem state, with what that says of its length
+-- a well-formed state, with what that says of its length
 pub record Formed (w : List ℕ) : Type 0 where
   pub formed : well_formed w ≡ true
   pub several : 2 ≤ shards_of (length w)

@@ -1,4 +1,4 @@
--- A step on a well_formed_lem state, its shard and its index being in range: its kind answers, and leaves what it answers for.
+-- A step on a well-formed state, its shard and its index being in range: its kind answers, and leaves what it answers for.
 -- Assumes nothing.
 use Prim.Native.Nat.{ℕ, ◌-◌, ◌≤◌}
 use native.Mathlib.Omega.{arith}
@@ -25,7 +25,7 @@ use Rattle.lookup.specs.KindContracts.{ReadyKind, kind_answer, kind_after}
 use Rattle.machine.specs.Inside.{ReadyStep}
 use Rattle.machine.proofs.Ladders.{rejects_early}
 
--- a well_formed_lem state has shards
+-- a well-formed state has shards
 pub has_shards : {w : List ℕ} → Formed w → {n : ℕ} → n ≡ shards_of (length w) → n ≡ 0 → ⊥
 has_shards f c e = omega (arith, f.several, c, e)
 

@@ -1,4 +1,6 @@
 // A step: the machine over a borrowed state of 64-bit words.
+
+#![tactic(auto)]
 ghost use Rattle.std.specs.Prelude.{◌≡◌, length};
 ghost use Rattle.model.specs.Layout.{shards_of};
 ghost use Rattle.model.specs.Steps.{rejection, after};
@@ -20,7 +22,7 @@ pub fn step(state: &mut [u64], s: Step) -> u64
     step_on(state, shards, s)
 }
 
-// The same on a state that has so many shards. Kind, shard and index are tested before the state is scanned, the other numbers after it: on a well_formed_lem
+// The same on a state that has so many shards. Kind, shard and index are tested before the state is scanned, the other numbers after it: on a well-formed
 // state by the step's kind.
 fn step_on(state: &mut [u64], shards: usize, s: Step) -> u64
     requires { HasShards state.old shards }
@@ -40,7 +42,7 @@ fn step_on(state: &mut [u64], shards: usize, s: Step) -> u64
     act(state, shards, s)
 }
 
-// The same on a state that is known to be well_formed_lem and is not scanned again.
+// The same on a state that is known to be well-formed and is not scanned again.
 pub fn step_inside(state: &mut [u64], shards: usize, s: Step) -> u64
     requires { Formed state.old × (shards ≡ shards_of (length state.old)) }
     ensures value { result ≡ rejection state.old s }

@@ -1,4 +1,4 @@
--- On a well_formed_lem state the answers of steps need no test of the whole state, so that they compute quickly where the steps are written out.
+-- On a well-formed state the answers of steps need no test of the whole state, so that they compute quickly where the steps are written out.
 use Prim.Native.Nat.{ℕ}
 use mathlib.Core.Path.{◌≡◌, refl, ap, ap₂, ◌∙◌}
 use mathlib.Core.Bool.{cond, not}
@@ -6,7 +6,7 @@ use mathlib.Core.List.{List, [], ◌∷◌}
 use lib.Dec.{eqb}
 use borrow.Author.Tests.{le-leb}
 use Rattle.types.specs.declared.step.Step.{Step}
-use Rattle.model.specs.Checks.{first_of, ◌orElse◌}
+use Rattle.model.specs.Checks.{first_of, ◌or_else◌}
 use Rattle.types.specs.Kinds.{kind_of, is_kept, is_unknown}
 use Rattle.model.specs.Layout.{is_state_length}
 use Rattle.types.specs.StepNames.{shard_of, configuration_of}
@@ -15,7 +15,7 @@ use Rattle.model.specs.Marked.{answers_from}
 use Rattle.model.proofs.WellFormed.{WellFormed, is_well_formed}
 use Rattle.model.proofs.WellFormedSteps.{after_formed}
 
--- what a step answers by its checks but 1 and 9, which a well_formed_lem state of Z shards passes
+-- what a step answers by its checks but 1 and 9, which a well-formed state of Z shards passes
 unfoldable pub quick_rejection : ℕ → List ℕ → Step → ℕ
 quick_rejection Z w s =
     first_of
@@ -43,6 +43,6 @@ module _ {Z : ℕ} {w : List ℕ} (f : WellFormed Z w) (s : Step) where
 pub quick_answers_lem : {Z : ℕ} {w : List ℕ} → WellFormed Z w → (ss : List Step) → answers_from w ss ≡ quick_answers Z w ss
 unfolding answers_from quick_answers
 quick_answers_lem f [] = refl
-quick_answers_lem {Z} f (s ∷ ss) =
+quick_answers_lem {Z = Z} {w = w} f (s ∷ ss) =
     ap₂ (λ (n : ℕ) (ns : List ℕ). n ∷ ns) (quick_rejection_lem f s)
-    (quick_answers_lem (after_formed f s) ss ∙ ap (λ (u : List ℕ). quick_answers Z u ss) (quick_after_lem f s))
+    (quick_answers_lem {w = after w s} (after_formed f s) ss ∙ ap (λ (u : List ℕ). quick_answers Z u ss) (quick_after_lem f s))

@@ -1,4 +1,4 @@
--- The proof of `specs/Appointed.antt`: the fields of an issue's word, and the bounds of a well_formed_lem state's members and orderers. Assumes nothing.
+-- The proof of `specs/Appointed.antt`: the fields of an issue's word, and the bounds of a well-formed state's members and orderers. Assumes nothing.
 use Prim.Native.Nat.{ℕ, suc, ◌+◌, ◌/◌, ◌^◌, ◌≤◌, ◌<◌}
 use native.Mathlib.Nat.{lt_of_lt_of_le}
 use native.Mathlib.Omega.{arith}

@@ -126,7 +126,7 @@ in_range_lem Z s e =
     let most = leb-true s.b 8 p.1.1.0 in
     record { shard = ltb-true s.a Z p.0; index = least; configuration = omega arith; numbers = p.1.1.1.0 }
 
--- what an accepted step tells: its state is well_formed_lem, its numbers are in range, and its kind's checks pass
+-- what an accepted step tells: its state is well-formed, its numbers are in range, and its kind's checks pass
 pub record Accepted (w : List ℕ) (s : Step) : Type 0 where
   pub several : 2 ≤ shards_of (length w)
   pub formed : well_formed w ≡ true
@@ -144,7 +144,7 @@ accepted w s e =
       checks = search;
     }
 
--- on a well_formed_lem state no step is rejected with 9
+-- on a well-formed state no step is rejected with 9
 pub not_nine : (w : List ℕ) (s : Step) → well_formed w ≡ true → rejection w s ≡ 9 → ⊥
 unfolding rejection step_checks
 not_nine w s f =

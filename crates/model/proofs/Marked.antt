@@ -1,4 +1,4 @@
--- The proof of `specs/Marked.antt`: setup's state is well_formed_lem, so every row computes.
+-- The proof of `specs/Marked.antt`: setup's state is well-formed, so every row computes.
 use mathlib.Core.Path.{◌≡◌, refl, ◌∙◌}
 use lib.Count.{ones}
 use Rattle.model.specs.Tests.{all_below, any_below, all_of, concat_below, contains}

@@ -39,45 +39,45 @@ read_zero k bs = refl
 
 -- a byte below 128 is the number's last; after another byte it is not 0
 pub read_last :
-    (k : ℕ) (isFirst : Bool) (b : ℕ) (bs : List ℕ) → b < 128 → (isFirst ≡ false → 1 ≤ b) → read_groups (suc k) isFirst (b ∷ bs) ≡ Value b 1
+    (k : ℕ) (is_first : Bool) (b : ℕ) (bs : List ℕ) → b < 128 → (is_first ≡ false → 1 ≤ b) → read_groups (suc k) is_first (b ∷ bs) ≡ Value b 1
 unfolding read_groups
 read_last k true b bs h p = rw (lt-ltb b 128 h, and-false)
 read_last k false b bs h p = let q : 1 ≤ b = p refl in rw (lt-ltb b 128 h, ne_eqb b 0 (λ e. omega arith))
 
 -- any other byte has seven bits of a number that goes on
 pub read_more :
-    (k : ℕ) (isFirst : Bool) (b : ℕ) (bs : List ℕ) → 128 ≤ b → read_groups (suc k) isFirst (b ∷ bs) ≡ with_lower (b % 128) (read_groups k false bs)
+    (k : ℕ) (is_first : Bool) (b : ℕ) (bs : List ℕ) → 128 ≤ b → read_groups (suc k) is_first (b ∷ bs) ≡ with_lower (b % 128) (read_groups k false bs)
 unfolding read_groups
-read_more k isFirst b bs h = rw (le-ltb b 128 h)
+read_more k is_first b bs h = rw (le-ltb b 128 h)
 
 -- ---- what is written is read
 
 -- the last byte reads back
 last_reads :
-    (k n : ℕ) (isFirst : Bool) (rest : List ℕ) → n < 128 → (isFirst ≡ false → 1 ≤ n)
-    → read_groups (suc k) isFirst (groups_of (suc k) n ++ rest) ≡ Value n (length (groups_of (suc k) n))
-last_reads k n isFirst rest h p = rw (groups_last k n h) (read_last k isFirst n rest h p)
+    (k n : ℕ) (is_first : Bool) (rest : List ℕ) → n < 128 → (is_first ≡ false → 1 ≤ n)
+    → read_groups (suc k) is_first (groups_of (suc k) n ++ rest) ≡ Value n (length (groups_of (suc k) n))
+last_reads k n is_first rest h p = rw (groups_last k n h) (read_last k is_first n rest h p)
 
 -- a byte before what reads back
 more_reads :
-    (k n : ℕ) (isFirst : Bool) (rest : List ℕ) → 128 ≤ n
+    (k n : ℕ) (is_first : Bool) (rest : List ℕ) → 128 ≤ n
     → read_groups k false (groups_of k (n / 128) ++ rest) ≡ Value (n / 128) (length (groups_of k (n / 128)))
-    → read_groups (suc k) isFirst (groups_of (suc k) n ++ rest) ≡ Value n (length (groups_of (suc k) n))
+    → read_groups (suc k) is_first (groups_of (suc k) n ++ rest) ≡ Value n (length (groups_of (suc k) n))
 unfolding with_lower
-more_reads k n isFirst rest h ih =
+more_reads k n is_first rest h ih =
     let value : (128 + n % 128) % 128 + 128 * (n / 128) ≡ n = omega arith in
-    rw (groups_more k n h, read_more k isFirst (128 + n % 128) (groups_of k (n / 128) ++ rest) (omega arith), ih, value)
+    rw (groups_more k n h, read_more k is_first (128 + n % 128) (groups_of k (n / 128) ++ rest) (omega arith), ih, value)
 
 -- a value that k + 1 groups hold, written in at most as many; after another byte it is not 0
 pub groups_read :
-    (k n : ℕ) (isFirst : Bool) (rest : List ℕ) → n < 2 ^ (7 * suc k) → (isFirst ≡ false → 1 ≤ n)
-    → read_groups (suc k) isFirst (groups_of (suc k) n ++ rest) ≡ Value n (length (groups_of (suc k) n))
-groups_read zero n isFirst rest h p = last_reads zero n isFirst rest h p
-groups_read (suc k) n isFirst rest h p =
+    (k n : ℕ) (is_first : Bool) (rest : List ℕ) → n < 2 ^ (7 * suc k) → (is_first ≡ false → 1 ≤ n)
+    → read_groups (suc k) is_first (groups_of (suc k) n ++ rest) ≡ Value n (length (groups_of (suc k) n))
+groups_read zero n is_first rest h p = last_reads zero n is_first rest h p
+groups_read (suc k) n is_first rest h p =
     elim (dec_lt n 128) [
-      | yes l ↦ last_reads (suc k) n isFirst rest l p
+      | yes l ↦ last_reads (suc k) n is_first rest l p
       | no l ↦
-          more_reads (suc k) n isFirst rest (omega arith)
+          more_reads (suc k) n is_first rest (omega arith)
           (groups_read k (n / 128) false rest (omega (arith, more_values (suc k))) (λ f. omega arith))
     ]
 
@@ -88,37 +88,37 @@ abbrev pub is_byte : ℕ → Bool
 is_byte b = ltb b 256
 
 -- what reading v in n bytes tells
-pub record Groups (k : ℕ) (isFirst : Bool) (bs : List ℕ) (v n : ℕ) : Type 0 where
+pub record Groups (k : ℕ) (is_first : Bool) (bs : List ℕ) (v n : ℕ) : Type 0 where
   pub least : 1 ≤ n
   pub most : n ≤ k
   pub within : n ≤ length bs
   pub below : v < 2 ^ (7 * k)
   -- a number of several bytes ends in a byte other than 0
-  pub positive : isFirst ≡ false → 1 ≤ v
+  pub positive : is_first ≡ false → 1 ≤ v
   pub bytes : all_of is_byte bs ≡ true → take n bs ≡ groups_of k v
 
 -- the same of any result: a rejection tells nothing
 abbrev Given : ℕ → Bool → List ℕ → Number → Type 0
-Given k isFirst bs (Value v n) = Groups k isFirst bs v n
-Given k isFirst bs (Rejected r) = Unit {0}
+Given k is_first bs (Value v n) = Groups k is_first bs v n
+Given k is_first bs (Rejected r) = Unit {0}
 
 -- a byte that ends a number after another byte is not 0
-last_positive : (isFirst : Bool) (b : ℕ) → (eqb b 0 && not isFirst) ≡ false → isFirst ≡ false → 1 ≤ b
+last_positive : (is_first : Bool) (b : ℕ) → (eqb b 0 && not is_first) ≡ false → is_first ≡ false → 1 ≤ b
 last_positive true b e f = absurd (true≢false f)
 last_positive false b e f = omega (arith, eqb-false b 0 (rw and-true at e))
 
 -- the lone byte of a number
 last_given :
-    (k : ℕ) (isFirst : Bool) (b : ℕ) (bs : List ℕ) → b < 128 → (t : Bool) → (eqb b 0 && not isFirst) ≡ t
-    → Given (suc k) isFirst (b ∷ bs) (cond t (Rejected 6) (Value b 1))
-last_given k isFirst b bs h true e = tt
-last_given k isFirst b bs h false e =
+    (k : ℕ) (is_first : Bool) (b : ℕ) (bs : List ℕ) → b < 128 → (t : Bool) → (eqb b 0 && not is_first) ≡ t
+    → Given (suc k) is_first (b ∷ bs) (cond t (Rejected 6) (Value b 1))
+last_given k is_first b bs h true e = tt
+last_given k is_first b bs h false e =
     record {
       least = omega arith;
       most = omega arith;
       within = omega arith;
       below = omega (arith, more_values k, pow_pos (7 * k));
-      positive = last_positive isFirst b e;
+      positive = last_positive is_first b e;
       bytes = λ f. sym (groups_last k b h);
     }
 
@@ -132,10 +132,10 @@ more_bytes k b v bs h l p e =
 
 -- a byte before a number that was read
 more_given :
-    (k : ℕ) (isFirst : Bool) (b : ℕ) (bs : List ℕ) → 128 ≤ b → (r : Number) → Given k false bs r
-    → Given (suc k) isFirst (b ∷ bs) (with_lower (b % 128) r)
+    (k : ℕ) (is_first : Bool) (b : ℕ) (bs : List ℕ) → 128 ≤ b → (r : Number) → Given k false bs r
+    → Given (suc k) is_first (b ∷ bs) (with_lower (b % 128) r)
 unfolding with_lower
-more_given k isFirst b bs h (Value v n) g =
+more_given k is_first b bs h (Value v n) g =
     let one : 1 ≤ v = g.positive refl in
     record {
       least = omega arith;
@@ -145,24 +145,24 @@ more_given k isFirst b bs h (Value v n) g =
       positive = λ e. omega arith;
       bytes = λ f. more_bytes k b v (take n bs) h (ltb-true b 256 (all_head is_byte b bs f)) one (g.bytes (all_tail is_byte b bs f));
     }
-more_given k isFirst b bs h (Rejected r) g = tt
+more_given k is_first b bs h (Rejected r) g = tt
 
 -- every result, by the number of bytes allowed
-given : (k : ℕ) (isFirst : Bool) (bs : List ℕ) → Given k isFirst bs (read_groups k isFirst bs)
+given : (k : ℕ) (is_first : Bool) (bs : List ℕ) → Given k is_first bs (read_groups k is_first bs)
 unfolding read_groups
-given zero isFirst bs = tt
-given (suc k) isFirst [] = tt
-given (suc k) isFirst (b ∷ bs) = go (ltb b 128) refl (given k false bs)
+given zero is_first bs = tt
+given (suc k) is_first [] = tt
+given (suc k) is_first (b ∷ bs) = go (ltb b 128) refl (given k false bs)
   where
     go :
         (t : Bool) → ltb b 128 ≡ t → Given k false bs (read_groups k false bs)
-        → Given (suc k) isFirst (b ∷ bs)
-        (cond t (cond (eqb b 0 && not isFirst) (Rejected 6) (Value b 1)) (with_lower (b % 128) (read_groups k false bs)))
-    go true f ih = last_given k isFirst b bs (ltb-true b 128 f) (eqb b 0 && not isFirst) refl
-    go false f ih = more_given k isFirst b bs (ltb-false b 128 f) (read_groups k false bs) ih
+        → Given (suc k) is_first (b ∷ bs)
+        (cond t (cond (eqb b 0 && not is_first) (Rejected 6) (Value b 1)) (with_lower (b % 128) (read_groups k false bs)))
+    go true f ih = last_given k is_first b bs (ltb-true b 128 f) (eqb b 0 && not is_first) refl
+    go false f ih = more_given k is_first b bs (ltb-false b 128 f) (read_groups k false bs) ih
 
-pub groups_given : (k : ℕ) (isFirst : Bool) (bs : List ℕ) {v n : ℕ} → read_groups k isFirst bs ≡ Value v n → Groups k isFirst bs v n
-groups_given k isFirst bs e = rw e at (given k isFirst bs)
+pub groups_given : (k : ℕ) (is_first : Bool) (bs : List ℕ) {v n : ℕ} → read_groups k is_first bs ≡ Value v n → Groups k is_first bs v n
+groups_given k is_first bs e = rw e at (given k is_first bs)
 
 -- ---- a number of a log, of at most five bytes
 

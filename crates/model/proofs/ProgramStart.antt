@@ -1,4 +1,4 @@
--- The program's plan is accepted, and the state that it gives is well_formed_lem. The proof of `specs/ProgramSetup.antt`.
+-- The program's plan is accepted, and the state that it gives is well-formed. The proof of `specs/ProgramSetup.antt`.
 use Prim.Native.Nat.{ℕ}
 use mathlib.Core.Path.{◌≡◌, refl, subst}
 use mathlib.Core.List.{List}

@@ -33,16 +33,16 @@ last_stays : (t : Bool) (b : ℕ) → Stays (cond t (NotNumber 6) (Value b 1)) (
 last_stays true b = tt
 last_stays false b = refl
 
-groups_stay : (k : ℕ) (isFirst : Bool) (bs more : List ℕ) → Stays (read_groups k isFirst bs) (read_groups k isFirst (bs ++ more))
+groups_stay : (k : ℕ) (is_first : Bool) (bs more : List ℕ) → Stays (read_groups k is_first bs) (read_groups k is_first (bs ++ more))
 unfolding read_groups
-groups_stay zero isFirst bs more = tt
-groups_stay (suc k) isFirst [] more = tt
-groups_stay (suc k) isFirst (b ∷ bs) more = go (ltb b 128) (groups_stay k false bs more)
+groups_stay zero is_first bs more = tt
+groups_stay (suc k) is_first [] more = tt
+groups_stay (suc k) is_first (b ∷ bs) more = go (ltb b 128) (groups_stay k false bs more)
   where
     go : (t : Bool) → Stays (read_groups k false bs) (read_groups k false (bs ++ more))
-        → Stays (cond t (cond (eqb b 0 && not isFirst) (NotNumber 6) (Value b 1)) (with_lower (b % 128) (read_groups k false bs)))
-        (cond t (cond (eqb b 0 && not isFirst) (NotNumber 6) (Value b 1)) (with_lower (b % 128) (read_groups k false (bs ++ more))))
-    go true s = last_stays (eqb b 0 && not isFirst) b
+        → Stays (cond t (cond (eqb b 0 && not is_first) (NotNumber 6) (Value b 1)) (with_lower (b % 128) (read_groups k false bs)))
+        (cond t (cond (eqb b 0 && not is_first) (NotNumber 6) (Value b 1)) (with_lower (b % 128) (read_groups k false (bs ++ more))))
+    go true s = last_stays (eqb b 0 && not is_first) b
     go false s = lower_stays (b % 128) (read_groups k false bs) (read_groups k false (bs ++ more)) s
 
 number_stays : (bs more : List ℕ) {v n : ℕ} → read_number bs ≡ Value v n → read_number (bs ++ more) ≡ Value v n

@@ -61,7 +61,7 @@ pub record SafeChange (gets : ℕ → Type 0) (w : List ℕ) (offers : ℕ → L
   pub counts : (z : ℕ) → z < shards w → Count (gets z) (installed w z) (installed w' z)
   pub sequencers : (z : ℕ) → z < shards w → sequencer w' z ≡ sequencer w z
 
--- a safe state is well_formed_lem
+-- a safe state is well-formed
 pub formed : {w : List ℕ} {offers : ℕ → List ℕ} → Safe w offers → WellFormed (shards w) w
 unfolding shards
 formed {w} x = well_formed_lem w (shards w) refl x.several x.formed

@@ -1,4 +1,4 @@
--- What a step of any kind but install answers and writes depends on its own shard's block and on the sequencers alone: on two well_formed_lem states that have
+-- What a step of any kind but install answers and writes depends on its own shard's block and on the sequencers alone: on two well-formed states that have
 -- these alike it gets the same answer, and where it is accepted it writes the same replica to the same place of both.
 -- Assumes nothing.
 use Prim.Native.Nat.{ℕ, ◌-◌, ◌≤◌, ◌<◌}

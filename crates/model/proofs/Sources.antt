@@ -15,7 +15,7 @@ use Rattle.model.specs.Inherit.{source}
 use Rattle.model.specs.Origins.{is_origin_of}
 use Rattle.model.specs.Runs.{Moment, state_at}
 use Rattle.model.specs.OneList.{shards, Seated}
-use Rattle.model.specs.Sources.{Began, inherits as inheritsFrom, catches_up as catchesUpWith, NamesSource, SourcesClaim}
+use Rattle.model.specs.Sources.{Began, inherits as inherits_from, catches_up as catches_up_with, NamesSource, SourcesClaim}
 use Rattle.model.proofs.StateViews.{view, InView, inside, outside, in_view}
 use Rattle.model.proofs.SeatedReplica.{member_view}
 use Rattle.model.proofs.Origins.{named, has_source}
@@ -125,10 +125,10 @@ module _ {w : List ℕ} {ms : List Moment} (r : FromSetup w ms) where
           record { before = b.before; next_to = b.next_to; how = by_peer n (le_refl (suc n)) m p t d b.how i }
 
   -- the source, as it is at the moment
-  source_at : {n z j a k g : ℕ} → z < shards w → BeganFrom w ms z j a g k n → Source (at n) z a g
+  source_at : {z j a g n k : ℕ} → z < shards w → BeganFrom w ms z j a g k n → Source (at n) z a g
   unfolding at
   source_at h (by_inherit m l q f i) = f
-  source_at {n} h (by_peer m l q p t e b i) = source_onward (forward m n (le_of_lt l)) (shard_at m h) (source_at h b)
+  source_at {n = n} h (by_peer m l q p t e b i) = source_onward (forward m n (le_of_lt l)) (shard_at m h) (source_at h b)
 
   -- ---- from the view to hosts
 
@@ -177,14 +177,17 @@ module _ {w : List ℕ} {ms : List Moment} (r : FromSetup w ms) where
     became = host_view (suc m) n z j h l y (lt_of_lt_of_le there ((on m).installs z (shard_at m y))) d
 
   -- a host began as its replica in the view did
-  host_began : (n z j a h g : ℕ) → j ≡ suc a → z < shards w → has_member (members (at n) z j) h ≡ true
-      → BeganFrom w ms z j a g (replica_number (members (at n) z j) h) n → Began w ms z j g h n
+  host_began : (z j a g : ℕ) → j ≡ suc a → z < shards w → (n h k : ℕ) → k ≡ replica_number (members (at n) z j) h
+      → has_member (members (at n) z j) h ≡ true → BeganFrom w ms z j a g k n → Began w ms z j g h n
   unfolding at shown
-  host_began n z j a h g e y d (by_inherit m l q f i) =
-      inheritsFrom m l (waited n z j h y d m l q) (rw (source_view n z j a g e y f) (became n z j h y d m l q ∙ i))
-  host_began n z j a h g e y d (by_peer m l q p t c b i) =
-      catchesUpWith m l (waited n z j h y d m l q) p (record { shard = shard_at m y; configured = t; member = c }) (host_began m z j a p g e y c b)
-      (rw (host_view m m z j p (le_refl m) y t c) (became n z j h y d m l q ∙ i))
+  host_began z j a g e y n h k s d (by_inherit m l q f i) =
+      let p : (view (at m) z j (replica_number (members (at n) z j) h)).mode ≡ 1 = rw s at q in
+      inherits_from m l (waited n z j h y d m l p) (rw (source_view n z j a g e y f) (became n z j h y d m l p ∙ rw s at i))
+  host_began z j a g e y n h k s d (by_peer m l q p t c b i) =
+      let r : (view (at m) z j (replica_number (members (at n) z j) h)).mode ≡ 1 = rw s at q in
+      catches_up_with m l (waited n z j h y d m l r) p (record { shard = shard_at m y; configured = t; member = c })
+      (host_began z j a g e y m p (replica_number (members (at m) z j) p) refl c b)
+      (rw (host_view m m z j p (le_refl m) y t c) (became n z j h y d m l r ∙ rw s at i))
 
   module _ (z j h g n : ℕ) (d : Seated (at n) z j h) (o : (replica_in (at n) z j h).origin ≡ suc g) where
     below : z < shards w
@@ -207,9 +210,9 @@ module _ {w : List ℕ} {ms : List Moment} (r : FromSetup w ms) where
 
     seated_began : Began w ms z j g h n
     unfolding at
-    seated_began = host_began n z j began_at.before h g began_at.next_to below d.member began_at.how
+    seated_began = host_began z j began_at.before g began_at.next_to below n h _ refl d.member began_at.how
 
-  -- a replica that is not pending, of a configuration after a shard's first, names a host, since the state is well_formed_lem
+  -- a replica that is not pending, of a configuration after a shard's first, names a host, since the state is well-formed
   seated_named : (z j h n : ℕ) → Seated (at n) z (suc j) h → is_pending (replica_in (at n) z (suc j) h) ≡ false → NamesSource (at n) z (suc j) h
   unfolding replica_in
   seated_named z j h n d e =

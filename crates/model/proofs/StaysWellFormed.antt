@@ -27,13 +27,13 @@ unfolding after_all
 all_long w [] = refl
 all_long w (s ∷ ss) = all_long (after w s) ss ∙ step_length w s
 
--- a state of a known number of shards stays well_formed_lem
+-- a state of a known number of shards stays well-formed
 pub all_formed : {Z : ℕ} {w : List ℕ} → WellFormed Z w → (ss : List Step) → WellFormed Z (after_all w ss)
 unfolding after_all
 all_formed f [] = f
-all_formed f (s ∷ ss) = all_formed (after_formed f s) ss
+all_formed {w = w} f (s ∷ ss) = all_formed {w = after w s} (after_formed f s) ss
 
--- a replay of a well_formed_lem state is not rejected
+-- a replay of a well-formed state is not rejected
 pub replay_accepted : {Z : ℕ} {w : List ℕ} → WellFormed Z w → replay_rejection w ≡ 0
 unfolding replay_rejection first_of is_state_length
 replay_accepted {Z} {w} f = rw (f.shards, is_well_formed f, le-leb 2 Z f.several)

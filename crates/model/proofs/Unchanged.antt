@@ -57,14 +57,14 @@ all_alone : {v w : List ℕ} → well_formed v ≡ true → well_formed w ≡ tr
     → OriginsAlone (after_all v ss) (after_all w ss)
 unfolding after_all
 all_alone e f a [] = a
-all_alone {v} {w} e f a (s ∷ ss) = all_alone (kept v s e) (kept w s f) (after_alone e f a s) ss
+all_alone {v = v} {w = w} e f a (s ∷ ss) = all_alone {v = after v s} {w = after w s} (kept v s e) (kept w s f) (after_alone e f a s) ss
 
 answers_same : {v w : List ℕ} → well_formed v ≡ true → well_formed w ≡ true → OriginsAlone v w → (ss : List Step)
     → answers_from v ss ≡ answers_from w ss
 unfolding answers_from
 answers_same e f a [] = refl
-answers_same {v} {w} e f a (s ∷ ss) =
-    ap₂ (λ (n : ℕ) (ns : List ℕ). n ∷ ns) (answer_same e f a s) (answers_same (kept v s e) (kept w s f) (after_alone e f a s) ss)
+answers_same {v = v} {w = w} e f a (s ∷ ss) =
+    ap₂ (λ (n : ℕ) (ns : List ℕ). n ∷ ns) (answer_same e f a s) (answers_same {v = after v s} {w = after w s} (kept v s e) (kept w s f) (after_alone e f a s) ss)
 
 pub unchanged : UnchangedClaim
 unfolding UnchangedClaim

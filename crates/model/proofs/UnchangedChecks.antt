@@ -1,4 +1,4 @@
--- On two well_formed_lem states that differ in words 3 alone, the checks of every kind pass alike, so every step gets the same answer.
+-- On two well-formed states that differ in words 3 alone, the checks of every kind pass alike, so every step gets the same answer.
 -- Assumes nothing.
 use Prim.Native.Nat.{ℕ, ◌-◌, ◌≤◌, ◌<◌}
 use native.Mathlib.Omega.{arith}

@@ -1,4 +1,4 @@
--- Steps that are accepted on two well_formed_lem states that differ in words 3 alone leave states that differ there alone.
+-- Steps that are accepted on two well-formed states that differ in words 3 alone leave states that differ there alone.
 -- Assumes nothing.
 use Prim.Native.Nat.{ℕ, zero, suc, ◌+◌, ◌-◌, ◌*◌, ◌≤◌, ◌<◌}
 use native.Mathlib.Omega.{arith}

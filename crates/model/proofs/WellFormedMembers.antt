@@ -1,4 +1,4 @@
--- The members of a well_formed_lem state's configurations: at most four, their replicas proper.
+-- The members of a well-formed state's configurations: at most four, their replicas proper.
 use Prim.Native.Nat.{ℕ, ◌≤◌, ◌<◌}
 use native.Mathlib.Omega.{arith}
 use mathlib.Core.Path.{◌≡◌, refl, ap, subst}
@@ -60,7 +60,7 @@ head_few w z j e = go (is_installed w z j) refl
     go true i = (head_installed w z j e i).size_most
     go false i = omega (arith, size_none (members w z j) (head_open w z j e i))
 
--- ---- the configurations of a well_formed_lem state
+-- ---- the configurations of a well-formed state
 
 module _ {Z : ℕ} {w : List ℕ} (f : WellFormed Z w) {z j : ℕ} (hz : z < Z) (hj : j < 8) where
   pub size_few : size (members w z j) ≤ 4

@@ -1,4 +1,4 @@
--- A proper replica with a proper origin that is not pending, written where a member's replica is, keeps a state well_formed_lem.
+-- A proper replica with a proper origin that is not pending, written where a member's replica is, keeps a state well-formed.
 use Prim.Native.Nat.{ℕ, ◌+◌, ◌-◌, ◌≤◌, ◌<◌}
 use native.Mathlib.Omega.{arith}
 use native.Mathlib.Decide.{ℕ_discrete}

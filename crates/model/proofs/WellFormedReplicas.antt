@@ -1,4 +1,4 @@
--- Add, adopt, learn, wedge, inherit and catch up keep a state well_formed_lem.
+-- Add, adopt, learn, wedge, inherit and catch up keep a state well-formed.
 use Prim.Native.Nat.{ℕ, ◌-◌, ◌≤◌, ◌<◌}
 use native.Mathlib.Omega.{arith}
 use mathlib.Core.Path.{◌≡◌}

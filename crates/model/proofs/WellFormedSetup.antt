@@ -1,4 +1,4 @@
--- Setup leaves a well_formed_lem state, as long as the one before.
+-- Setup leaves a well-formed state, as long as the one before.
 use Prim.Native.Nat.{ℕ, zero, suc, ◌+◌, ◌*◌, ◌≤◌, ◌<◌}
 use native.Mathlib.Omega.{arith}
 use mathlib.Core.Path.{◌≡◌, refl, sym, ap, ◌∙◌, subst}
@@ -9,7 +9,7 @@ use lib.Dec.{ltb, eqb, lit≤}
 use lib.ListN.{length}
 use borrow.Author.Tests.{leb-true, le-ltb, eq-eqb, ne_eqb}
 use Rattle.model.specs.Tests.{all_below}
-use Rattle.model.specs.Checks.{◌orElse◌}
+use Rattle.model.specs.Checks.{◌or_else◌}
 use Rattle.types.specs.Members.{size, is_configuration}
 use Rattle.model.specs.Replicas.{replica_words, fresh, unused}
 use Rattle.model.specs.Layout.{shards_of, is_state_length, place, is_installed, members, part, replica_at}

@@ -1,4 +1,4 @@
--- Every step keeps a well_formed_lem state well_formed_lem, and every state as long as it is.
+-- Every step keeps a well-formed state well-formed, and every state as long as it is.
 use Prim.Native.Nat.{ℕ, ◌<◌}
 use mathlib.Core.Path.{◌≡◌, refl, sym, ◌∙◌, subst}
 use mathlib.Core.Bool.{true}
@@ -62,7 +62,7 @@ after_either P w s here there = go (ℕ_discrete (rejection w s) 0)
     go (yes e) = subst P (sym (after_accepted w s e)) (there e)
     go (no n) = subst P (sym (after_rejected w s n)) here
 
--- a state that is well_formed_lem stays so
+-- a state that is well-formed stays so
 pub after_formed : {Z : ℕ} {w : List ℕ} → WellFormed Z w → (s : Step) → WellFormed Z (after w s)
 after_formed {Z} {w} f s =
     after_either (WellFormed Z) w s f

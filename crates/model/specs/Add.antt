@@ -1,7 +1,7 @@
 -- Kind 1, add: an entry goes last in the orderer's history.
 use Rattle.std.specs.Prelude.{ℕ, Bool, not, ◌||◌, List, [], ◌∷◌, ltb, eqb, length}
 use Rattle.model.specs.Tests.{all_of, contains}
-use Rattle.model.specs.Checks.{Check, ◌orElse◌}
+use Rattle.model.specs.Checks.{Check, ◌or_else◌}
 use Rattle.model.specs.Entries.{is_issue, issue_shard, rivals}
 use Rattle.model.specs.Replicas.{Replica, most_entries, is_active, added}
 use Rattle.model.specs.Layout.{sequencer, is_installed, put_replica}

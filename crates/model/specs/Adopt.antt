@@ -1,6 +1,6 @@
 -- Kind 2, adopt (adopt history): a replica takes over the orderer's history.
 use Rattle.std.specs.Prelude.{ℕ, not, List, [], ◌∷◌, eqb}
-use Rattle.model.specs.Checks.{Check, ◌orElse◌}
+use Rattle.model.specs.Checks.{Check, ◌or_else◌}
 use Rattle.types.specs.Members.{has_member}
 use Rattle.model.specs.Replicas.{is_active, is_pending, adopted}
 use Rattle.model.specs.Layout.{is_installed, members, orderer, put_replica}

@@ -1,7 +1,7 @@
 -- Kind 7, catch up (request A4, "Catching up from a neighbour seat"; source document 002's `inheritHistory3`): a pending replica begins from a peer, a
 -- replica of its own configuration.
 use Rattle.std.specs.Prelude.{ℕ, Bool, not, ◌&&◌, List, [], ◌∷◌}
-use Rattle.model.specs.Checks.{Check, ◌orElse◌}
+use Rattle.model.specs.Checks.{Check, ◌or_else◌}
 use Rattle.types.specs.Members.{has_member}
 use Rattle.model.specs.Replicas.{is_pending, caught_up}
 use Rattle.model.specs.Layout.{is_installed, members, put_replica}

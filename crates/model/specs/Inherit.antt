@@ -1,6 +1,6 @@
 -- Kind 6, inherit (inherit history): a pending replica begins from an immutable one of the configuration before.
 use Rattle.std.specs.Prelude.{ℕ, ◌-◌, Bool, ◌&&◌, List, [], ◌∷◌}
-use Rattle.model.specs.Checks.{Check, ◌orElse◌}
+use Rattle.model.specs.Checks.{Check, ◌or_else◌}
 use Rattle.types.specs.Members.{has_member}
 use Rattle.model.specs.Replicas.{Replica, is_pending, is_immutable, inherited}
 use Rattle.model.specs.Layout.{is_installed, members, put_replica}

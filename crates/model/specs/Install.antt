@@ -1,7 +1,7 @@
 -- Kind 5, install: the next configuration of a shard, issued in the history of its sequencer.
 use Rattle.std.specs.Prelude.{ℕ, zero, suc, ◌+◌, ◌-◌, Bool, not, ◌&&◌, List, [], ◌∷◌, ltb, eqb, get_or}
 use Rattle.model.specs.Tests.{all_below, any_below}
-use Rattle.model.specs.Checks.{Check, ◌orElse◌}
+use Rattle.model.specs.Checks.{Check, ◌or_else◌}
 use Rattle.types.specs.Members.{size, has_member}
 use Rattle.model.specs.Entries.{is_issue_for, names, issue_index, issue_orderer, issue_members}
 use Rattle.model.specs.Replicas.{Replica, is_immutable, pending}

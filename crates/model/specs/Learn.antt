@@ -1,7 +1,7 @@
 -- Kind 3, confirm (learn persistence): a longer prefix of a replica's history is stable.
 use Rattle.std.specs.Prelude.{ℕ, Bool, ◌&&◌, List, [], ◌∷◌, leb, ltb, eqb, length, get_or}
 use Rattle.model.specs.Tests.{all_below}
-use Rattle.model.specs.Checks.{Check, ◌orElse◌}
+use Rattle.model.specs.Checks.{Check, ◌or_else◌}
 use Rattle.types.specs.Members.{size, has_member}
 use Rattle.model.specs.Replicas.{is_active, learned}
 use Rattle.model.specs.Layout.{place, is_installed, members, put_replica, replica_at}

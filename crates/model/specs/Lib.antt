@@ -3,7 +3,7 @@
 -- Rules: what the others are written with
 pub mod Tests
 pub mod Checks
--- Rules: a state, and when it is well_formed_lem
+-- Rules: a state, and when it is well-formed
 pub mod Entries
 pub mod Replicas
 pub mod Layout

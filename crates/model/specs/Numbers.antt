@@ -13,12 +13,12 @@ with_lower x (Value v n) = Value (x + 128 * v) (suc n)
 with_lower x (Rejected r) = Rejected r
 
 -- the number at the start of the bytes, with k bytes allowed. "5. Log bytes end inside a step. 6. A number's fifth byte still has its top bit, or a
--- number of several bytes ends in byte 0." isFirst: no byte of this number was read yet
+-- number of several bytes ends in byte 0." is_first: no byte of this number was read yet
 unfoldable pub read_groups : ℕ → Bool → List ℕ → Number
-read_groups zero isFirst bs = Rejected 6
-read_groups (suc k) isFirst [] = Rejected 5
-read_groups (suc k) isFirst (b ∷ bs) =
-    cond (ltb b 128) (cond (eqb b 0 && not isFirst) (Rejected 6) (Value b 1)) (with_lower (b % 128) (read_groups k false bs))
+read_groups zero is_first bs = Rejected 6
+read_groups (suc k) is_first [] = Rejected 5
+read_groups (suc k) is_first (b ∷ bs) =
+    cond (ltb b 128) (cond (eqb b 0 && not is_first) (Rejected 6) (Value b 1)) (with_lower (b % 128) (read_groups k false bs))
 
 unfoldable pub read_number : List ℕ → Number
 read_number bs = read_groups most_bytes true bs

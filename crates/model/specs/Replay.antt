@@ -3,7 +3,7 @@ use Rattle.std.specs.Prelude.{ℕ, ◌+◌, cond, List, [], ◌∷◌, eqb, leng
 use Rattle.types.specs.declared.step.Step.{Step}
 use Rattle.types.specs.declared.Report.{Report}
 use Rattle.types.specs.declared.Stop.TheVariants.{Rejected}
-use Rattle.model.specs.Checks.{first_of, ◌orElse◌}
+use Rattle.model.specs.Checks.{first_of, ◌or_else◌}
 use Rattle.model.specs.Layout.{is_state_length}
 use Rattle.model.specs.WellFormed.{well_formed}
 use Rattle.model.specs.Steps.{rejection, after}

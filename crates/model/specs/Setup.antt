@@ -1,7 +1,7 @@
 -- Setup (document 01, "State": "Setup takes a plan of 3 × Z words (sequencer, members, orderer for each zone)"), rejections 1 and 2.
 use Rattle.std.specs.Prelude.{ℕ, ◌+◌, ◌*◌, Bool, cond, ◌&&◌, List, [], ◌∷◌, ◌++◌, ltb, eqb, length, get_or, replicate}
 use Rattle.model.specs.Tests.{all_below, concat_below}
-use Rattle.model.specs.Checks.{first_of, ◌orElse◌}
+use Rattle.model.specs.Checks.{first_of, ◌or_else◌}
 use Rattle.types.specs.Members.{size, is_configuration}
 use Rattle.model.specs.Replicas.{Replica, replica_words, fresh, unused}
 use Rattle.model.specs.Layout.{shards_of, is_state_length}

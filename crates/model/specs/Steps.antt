@@ -4,7 +4,7 @@ use Rattle.types.specs.declared.kind.Kind.{Kind}
 use Rattle.types.specs.declared.kind.Kind.TheVariants.{Add, Adopt, Learn, Wedge, Install, Inherit, CatchUp, Kept, Unknown}
 use Rattle.types.specs.StepNames.{shard_of, configuration_of}
 use Rattle.types.specs.declared.step.Step.{Step}
-use Rattle.model.specs.Checks.{Check, first_of, ◌orElse◌}
+use Rattle.model.specs.Checks.{Check, first_of, ◌or_else◌}
 use Rattle.types.specs.Kinds.{kind_of, is_kept, is_unknown}
 use Rattle.types.specs.Members.{is_host}
 use Rattle.model.specs.Entries.{is_entry}

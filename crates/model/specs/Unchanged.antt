@@ -1,5 +1,5 @@
--- Request A3, "What a box confirms is unchanged": in well_formed_lem states word 3 of a replica, which that request brought, decides nothing but later words 3.
--- It is one claim over every two well_formed_lem states that differ in words 3 alone: steps get the same answers on both and leave states that differ there
+-- Request A3, "What a box confirms is unchanged": in well-formed states word 3 of a replica, which that request brought, decides nothing but later words 3.
+-- It is one claim over every two well-formed states that differ in words 3 alone: steps get the same answers on both and leave states that differ there
 -- alone, and every host shows the same. It is proved in `proofs/Unchanged.antt` (`unchanged`).
 use Rattle.std.specs.Prelude.{ℕ, ◌%◌, ◌<◌, ◌≡◌, Bool, true, false, ◌&&◌, List, leb, eqb, length, get_or}
 use Rattle.types.specs.declared.step.Step.{Step}

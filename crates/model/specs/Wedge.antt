@@ -1,6 +1,6 @@
 -- Kind 4, wedge: an active replica becomes immutable.
 use Rattle.std.specs.Prelude.{ℕ, List, [], ◌∷◌}
-use Rattle.model.specs.Checks.{Check, ◌orElse◌}
+use Rattle.model.specs.Checks.{Check, ◌or_else◌}
 use Rattle.types.specs.Members.{has_member}
 use Rattle.model.specs.Replicas.{is_active, wedged}
 use Rattle.model.specs.Layout.{is_installed, members, put_replica}

@@ -21,8 +21,8 @@ is_unused r = eqb r.mode 0 && eqb (length r.history) 0 && eqb r.stable 0 && eqb 
 
 -- the 64 words of a replica of configuration j: just the words of what they hold, which is proper for a member's or another's replica
 unfoldable pub is_part : ℕ → ℕ → Bool → List ℕ → Bool
-is_part Z j isMember p =
-    same p (replica_words (read_replica p)) && cond isMember (is_replica Z j (read_replica p)) (is_unused (read_replica p))
+is_part Z j is_member p =
+    same p (replica_words (read_replica p)) && cond is_member (is_replica Z j (read_replica p)) (is_unused (read_replica p))
 
 -- "every sequencer is a zone below Z, none its own .."
 unfoldable pub is_sequencer : ℕ → ℕ → ℕ → Bool

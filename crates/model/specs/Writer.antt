@@ -3,7 +3,7 @@ use Rattle.std.specs.Prelude.{ℕ, ◌+◌, ◌*◌, ◌^◌, Bool, cond, not, �
 use Rattle.types.specs.declared.Writing.{Writing}
 use Rattle.types.specs.declared.Writing.TheVariants.{Bytes, Rejected}
 use Rattle.types.specs.declared.step.Step.{Step}
-use Rattle.model.specs.Checks.{first_of, ◌orElse◌}
+use Rattle.model.specs.Checks.{first_of, ◌or_else◌}
 use Rattle.types.specs.Kinds.{kind_of, is_kept, is_unknown, used_numbers}
 use Rattle.model.specs.Numbers.{most_bytes, number_bytes, numbers_bytes}
 

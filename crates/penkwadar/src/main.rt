@@ -1,5 +1,7 @@
 // The program: the text of the log on standard input. The log is read to one byte past the most that it may have. A failure is told in one line on
 // standard error; where the log cannot be read whole, nothing is printed.
+
+#![tactic(auto)]
 ghost use Rattle.std.specs.Prelude.{◌≤◌, length};
 
 use types::Writing;

@@ -47,22 +47,22 @@ byte_one b h = rw (lt-ltb b 128 h)
 
 -- it is read where its last byte is not 0
 pub groups_read :
-    (k : ℕ) (isFirst : Bool) (bs more : List ℕ) → length bs ≤ k → (last_byte bs ≡ 0 → ⊥)
-    → read_groups k isFirst (bs ++ more) ≡ Value (groups_value bs) (groups_count bs)
+    (k : ℕ) (is_first : Bool) (bs more : List ℕ) → length bs ≤ k → (last_byte bs ≡ 0 → ⊥)
+    → read_groups k is_first (bs ++ more) ≡ Value (groups_value bs) (groups_count bs)
 unfolding groups_value groups_count last_byte with_lower
-groups_read k isFirst [] more l n = absurd (n refl)
-groups_read zero isFirst (b ∷ bs) more l n = absurd (omega arith)
-groups_read (suc k) isFirst (b ∷ bs) more l n = go (dec_lt b 128) (groups_read k false bs more (omega arith))
+groups_read k is_first [] more l n = absurd (n refl)
+groups_read zero is_first (b ∷ bs) more l n = absurd (omega arith)
+groups_read (suc k) is_first (b ∷ bs) more l n = go (dec_lt b 128) (groups_read k false bs more (omega arith))
   where
     go :
         Dec (b < 128) → ((last_byte bs ≡ 0 → ⊥) → read_groups k false (bs ++ more) ≡ Value (groups_value bs) (groups_count bs))
-        → read_groups (suc k) isFirst (b ∷ (bs ++ more)) ≡ Value (groups_value (b ∷ bs)) (groups_count (b ∷ bs))
+        → read_groups (suc k) is_first (b ∷ (bs ++ more)) ≡ Value (groups_value (b ∷ bs)) (groups_count (b ∷ bs))
     go (yes h) ih =
         let last = lt-ltb b 128 h in
-        rw last (read_last k isFirst b (bs ++ more) h (λ f. omega (arith, rw last at n)))
+        rw last (read_last k is_first b (bs ++ more) h (λ f. omega (arith, rw last at n)))
     go (no h) ih =
         let goes_on_lem = le-ltb b 128 (omega arith) in
-        rw (goes_on_lem, read_more k isFirst b (bs ++ more) (omega arith), ih (rw goes_on_lem at n))
+        rw (goes_on_lem, read_more k is_first b (bs ++ more) (omega arith), ih (rw goes_on_lem at n))
 
 -- each byte holds seven bits
 pub groups_below : (bs : List ℕ) → groups_value bs < 2 ^ (7 * length bs)

@@ -51,7 +51,7 @@ module _ (w out : List ℕ) where
   unfolding csv_rejection first_of is_state_length
   rejects_form n f = rejects 9 (λ q. omega arith) (simp (le-leb 2 (shards_of (length w)) (several (length w) n), f))
 
-  -- of a well_formed_lem state
+  -- of a well-formed state
   module _ {n : ℕ} (f : FormedOf w n) where
     long : is_state_length (length w) ≡ true
     unfolding is_state_length

@@ -1,4 +1,4 @@
--- How long the text of a well_formed_lem state is at most: by the digits of a row's numbers, row by row and shard by shard. Assumes nothing.
+-- How long the text of a well-formed state is at most: by the digits of a row's numbers, row by row and shard by shard. Assumes nothing.
 use Prim.Native.Nat.{ℕ, zero, suc, ◌+◌, ◌*◌, ◌^◌, ◌≤◌, ◌<◌}
 use native.Mathlib.Nat.{mul-suc}
 use native.Mathlib.Decide.{dec_lt}

@@ -1,4 +1,4 @@
--- The text of a well_formed_lem state: a shard's part is that of the replica which the pick finds, and the whole is the header and the shards' parts.
+-- The text of a well-formed state: a shard's part is that of the replica which the pick finds, and the whole is the header and the shards' parts.
 -- Assumes nothing.
 use Prim.Native.Nat.{ℕ, ◌+◌, ◌-◌, ◌*◌, ◌≤◌, ◌<◌}
 use native.Mathlib.Omega.{arith}

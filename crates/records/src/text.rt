@@ -13,7 +13,7 @@ pub const HEADER_BYTES: usize = 23;
 // How long the rows of a shard are at most.
 pub const SHARD_MOST: usize = 1278;
 
-// How long the text of a well_formed_lem state is.
+// How long the text of a well-formed state is.
 pub fn text_length(state: &[u64], shards: usize) -> usize
     requires { FormedOf state.now shards }
     ensures { result ≡ length (csv state.now) }
@@ -27,7 +27,7 @@ pub fn text_length(state: &[u64], shards: usize) -> usize
     sum
 }
 
-// Writes the text of a well_formed_lem state to the start of an output that has room for it, and returns its length.
+// Writes the text of a well-formed state to the start of an output that has room for it, and returns its length.
 pub fn write_text(out: &mut [u8], state: &[u64], shards: usize) -> usize
     requires { TextRoom out.old state.now shards }
     ensures value { result ≡ length (csv state.now) }

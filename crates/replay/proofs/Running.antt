@@ -17,13 +17,13 @@ use Rattle.model.proofs.WellFormedSteps.{kept, step_length}
 use Rattle.lookup.specs.Ready.{Formed}
 use Rattle.replay.proofs.Rest.{Rest, rest_start, rest_step}
 
--- the run's loop between two turns: the state is well_formed_lem, and as long as it was
+-- the run's loop between two turns: the state is well-formed, and as long as it was
 pub record Running (w₀ log : List ℕ) (budget : ℕ) (w : List ℕ) (at tried rejected : ℕ) : Type 0 where
   pub rest : Rest w₀ log budget w at tried rejected
   pub formed : Formed w
   pub long : length w ≡ length w₀
 
--- a well_formed_lem state stays so
+-- a well-formed state stays so
 formed_after : {w : List ℕ} → Formed w → (s : Step) → Formed (after w s)
 formed_after {w} f s =
     record {

@@ -8,7 +8,7 @@ use lib.ListN.{length}
 use borrow.Author.Tests.{leb-true, eq-eqb, ne_eqb}
 use Rattle.types.specs.declared.Report.{Report}
 use Rattle.types.specs.declared.Stop.TheVariants.{Rejected}
-use Rattle.model.specs.Checks.{◌orElse◌}
+use Rattle.model.specs.Checks.{◌or_else◌}
 use Rattle.model.specs.Layout.{shards_of, is_state_length}
 use Rattle.model.specs.WellFormed.{well_formed}
 use Rattle.model.specs.Replay.{after_all, rejected_in, replay_rejection, replayed, report, after_replay}

@@ -1,4 +1,6 @@
 // The log run: steps are read and tried in order, on a state that is scanned once.
+
+#![tactic(auto)]
 ghost use Rattle.std.specs.Prelude.{◌≡◌, cond, ◌+◌, ◌-◌, ◌^◌, ◌<◌, eqb, length};
 ghost use Rattle.model.specs.Replay.{rejected_in, replayed, report, after_replay};
 ghost use Rattle.model.specs.Results.{stop_number, stop_code, replay_number, replay_code, replay_bytes};
@@ -33,7 +35,7 @@ pub fn replay(state: &mut [u64], log: &[u8], budget: u64) -> Report
     run(state, log, budget)
 }
 
-// The same on a state that is known to be well_formed_lem. Most steps are short or adds, and are read without the general reader.
+// The same on a state that is known to be well-formed. Most steps are short or adds, and are read without the general reader.
 fn run(state: &mut [u64], log: &[u8], budget: u64) -> Report
     requires { Formed state.old }
     ensures value { result ≡ run_report state.old log.now budget }

@@ -9,7 +9,7 @@ use lib.Dec.{ltb}
 use lib.ListN.{length, get_or, set}
 use borrow.Author.Tests.{lt-ltb, le-ltb, eq-eqb, ne_eqb, not-true, not-false}
 use Rattle.types.specs.declared.kind.Kind.TheVariants.{Add}
-use Rattle.model.specs.Checks.{Check, first_of, ◌orElse◌}
+use Rattle.model.specs.Checks.{Check, first_of, ◌or_else◌}
 use Rattle.types.specs.Kinds.{is_kept, is_unknown, names_host}
 use Rattle.types.specs.Rules.{Known}
 use Rattle.model.specs.Replicas.{replica_words}

@@ -2,14 +2,14 @@
 -- tells of the entry.
 use Rattle.std.specs.Prelude.{ℕ, ◌≡◌, true, not, List, [], ◌∷◌, length}
 use Rattle.model.specs.Tests.{contains}
-use Rattle.model.specs.Checks.{Check, ◌orElse◌}
+use Rattle.model.specs.Checks.{Check, ◌or_else◌}
 use Rattle.model.specs.Entries.{is_entry}
 use Rattle.model.specs.Layout.{shards_of, orderer}
 use Rattle.model.specs.Add.{no_rival}
 use Rattle.lookup.specs.Ready.{Formed}
 use Rattle.lookup.specs.KindContracts.{ReadyKind}
 
--- a well_formed_lem state and a proper entry
+-- a well-formed state and a proper entry
 pub record FormedEntry (w : List ℕ) (e : ℕ) : Type 0 where
   pub state : Formed w
   pub entry : is_entry (shards_of (length w)) e ≡ true

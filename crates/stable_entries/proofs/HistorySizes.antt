@@ -1,4 +1,4 @@
--- The stable history of a shard of a well_formed_lem state has at most 56 entries, each proper, so below 2 ^ 33. Assumes nothing.
+-- The stable history of a shard of a well-formed state has at most 56 entries, each proper, so below 2 ^ 33. Assumes nothing.
 use Prim.Native.Nat.{ℕ, ◌/◌, ◌^◌, ◌≤◌, ◌<◌}
 use native.Mathlib.Omega.{arith}
 use mathlib.Core.Path.{◌≡◌, refl}

@@ -1,4 +1,4 @@
--- The replicas of a shard of a well_formed_lem state: their stable prefixes are words of the state.
+-- The replicas of a shard of a well-formed state: their stable prefixes are words of the state.
 use Prim.Native.Nat.{ℕ, ◌+◌, ◌-◌, ◌/◌, ◌%◌, ◌≤◌, ◌<◌}
 use native.Mathlib.Nat.{add-sub_cancel_left}
 use native.Mathlib.Omega.{arith}
@@ -51,7 +51,7 @@ module _ (w : List ℕ) (at : ℕ) (fits : at + part_words ≤ length w) where
       rw (stable_word w at, history_words w at e) (take-take (get_or w (at + 2) 0) l (drop (at + 8) w) m) in
       record { has = record { fits = fits; few = few }; entries = p; count = ap length p ∙ entries_length few }
 
--- a part of a well_formed_lem state, of a member or not
+-- a part of a well-formed state, of a member or not
 stable_small : (Z j : ℕ) (b : Bool) (p : List ℕ) → is_part Z j b p ≡ true → (read_replica p).stable ≤ length (read_replica p).history
 stable_small Z j true p e = (part_proper Z j p e).stable_most
 stable_small Z j false p e = omega (arith, (part_vacant Z j p e).stable_none)

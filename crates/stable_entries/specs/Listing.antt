@@ -1,6 +1,6 @@
 -- A list of entries that is copied to an output: what the copying functions answer and leave.
 use Rattle.std.specs.Prelude.{ℕ, cond, List, ◌++◌, leb, eqb, length, drop}
-use Rattle.model.specs.Checks.{Check, ◌orElse◌}
+use Rattle.model.specs.Checks.{Check, ◌or_else◌}
 use Rattle.stable_entries.specs.declared.Listing.{Listing}
 use Rattle.stable_entries.specs.declared.Listing.TheVariants.{Entries, Rejected}
 

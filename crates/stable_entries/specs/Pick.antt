@@ -9,7 +9,7 @@ longest_place w z zero = place z 0 0
 longest_place w z (suc n) =
     cond (ltb (get_or w (longest_place w z n + 2) 0) (get_or w (place z 0 (suc n) + 2) 0)) (place z 0 (suc n)) (longest_place w z n)
 
--- a shard of a well_formed_lem state
+-- a shard of a well-formed state
 pub record OfShard (w : List ℕ) (z : ℕ) : Type 0 where
   pub formed : Formed w
   pub shard : z < shards_of (length w)

@@ -1,7 +1,7 @@
 -- The rejections that come before the state is looked at.
 use Rattle.std.specs.Prelude.{ℕ, Bool, not, ◌&&◌, [], ◌∷◌, leb, ltb}
 use Rattle.types.specs.declared.step.Step.{Step}
-use Rattle.model.specs.Checks.{first_of, ◌orElse◌}
+use Rattle.model.specs.Checks.{first_of, ◌or_else◌}
 use Rattle.types.specs.Kinds.{kind_of, is_kept, is_unknown}
 use Rattle.types.specs.StepNames.{shard_of}
 

@@ -1,6 +1,8 @@
 // Takes step vectors through `machine::step` and compares each answer, and a checksum of the state after it, with what is expected.
 // Standard input has them as numbers in groups of seven bits, highest first, top bit on all bytes but the last: how many vectors, and
 // for each the state's length, the step, the answer, the checksum, and the words that are not 0 as index and value.
+
+#![tactic(auto)]
 ghost use Rattle.std.specs.Prelude.{◌≤◌};
 
 use types::step::Step;

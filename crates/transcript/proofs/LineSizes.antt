@@ -1,4 +1,4 @@
--- How long the lines of the text are: step lines by the digits of their numbers, shard lines of a well_formed_lem state, and the last line.
+-- How long the lines of the text are: step lines by the digits of their numbers, shard lines of a well-formed state, and the last line.
 -- Assumes nothing.
 use Prim.Native.Nat.{ℕ, suc, ◌+◌, ◌*◌, ◌^◌, ◌≤◌, ◌<◌}
 use native.Mathlib.Nat.{mul-suc}

@@ -1,5 +1,5 @@
--- On a well_formed_lem state a replay is not rejected: it tries the steps that its log reads to, rejects no more than those, and leaves the state
--- well_formed_lem. Assumes nothing.
+-- On a well-formed state a replay is not rejected: it tries the steps that its log reads to, rejects no more than those, and leaves the state
+-- well-formed. Assumes nothing.
 use Prim.Native.Nat.{ℕ, suc, ◌+◌, ◌≤◌}
 use native.Mathlib.Omega.{arith}
 use mathlib.Core.Path.{◌≡◌}

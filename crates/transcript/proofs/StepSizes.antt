@@ -34,12 +34,12 @@ unfolding with_lower
 lower_sized x (Value v n) g = omega arith
 lower_sized x (NotNumber r) g = g
 
-groups_sized : (k : ℕ) (isFirst : Bool) (bs : List ℕ) → SizedNumber (read_groups k isFirst bs)
+groups_sized : (k : ℕ) (is_first : Bool) (bs : List ℕ) → SizedNumber (read_groups k is_first bs)
 unfolding read_groups
-groups_sized zero isFirst bs = record { least = omega arith; most = omega arith }
-groups_sized (suc k) isFirst [] = record { least = omega arith; most = omega arith }
-groups_sized (suc k) isFirst (b ∷ bs) =
-    go (ltb b 128) (eqb b 0 && not isFirst) (with_lower (b % 128) (read_groups k false bs))
+groups_sized zero is_first bs = record { least = omega arith; most = omega arith }
+groups_sized (suc k) is_first [] = record { least = omega arith; most = omega arith }
+groups_sized (suc k) is_first (b ∷ bs) =
+    go (ltb b 128) (eqb b 0 && not is_first) (with_lower (b % 128) (read_groups k false bs))
     (lower_sized (b % 128) (read_groups k false bs) (groups_sized k false bs))
   where
     go : (t u : Bool) (r : Number) → SizedNumber r → SizedNumber (cond t (cond u (NotNumber 6) (Value b 1)) r)

@@ -64,7 +64,7 @@ module _ (log out : List ℕ) (room : length (lines log) ≤ length out) {w : Li
   all_left : Progress out 0 (lines log) out 0 (run_lines program_start log ++ from_shards (left log) (run_report program_start log program_budget))
   all_left = rw (← lines_are log) (progress_first out 0 (lines log) (omega (arith, room)))
 
-  -- the run begins in a well_formed_lem state, with room for its lines
+  -- the run begins in a well-formed state, with room for its lines
   pub run_room : RunRoom w log out
   run_room =
       let f = progress_room (run_lines program_start log) (from_shards (left log) (run_report program_start log program_budget)) all_left in

@@ -3,7 +3,7 @@ use Rattle.std.specs.Prelude.{ℕ, ◌≤◌, cond, List, [], ◌∷◌, ◌++�
 use Rattle.types.specs.declared.Stop.{Stop}
 use Rattle.types.specs.declared.Writing.{Writing}
 use Rattle.types.specs.declared.Writing.TheVariants.{Bytes, Rejected}
-use Rattle.model.specs.Checks.{first_of, ◌orElse◌}
+use Rattle.model.specs.Checks.{first_of, ◌or_else◌}
 use Rattle.model.specs.Log.{read_log}
 use Rattle.model.specs.Results.{count_beside}
 use Rattle.model.specs.Transcript.{decimal, spaced, newline, step_lines, program_budget}
@@ -35,7 +35,7 @@ after_text out text = cond (eqb (text_rejection out text) 0) (text ++ drop (leng
 unfoldable pub step_line : ℕ → ℕ → ℕ → List ℕ
 step_line n kind answer = decimal n ++ (spaced kind ++ (spaced answer ++ newline))
 
--- the lines of the steps of a log, tried on a state that is known to be well_formed_lem
+-- the lines of the steps of a log, tried on a state that is known to be well-formed
 unfoldable pub run_lines : List ℕ → List ℕ → List ℕ
 run_lines w log = step_lines 0 w (read_log program_budget log).steps
 
@@ -49,7 +49,7 @@ printed w log =
     printed_as (run_report w log program_budget).stop (run_report w log program_budget).tried (run_report w log program_budget).rejected
     (run_report w log program_budget).bytes (length (run_lines w log))
 
--- ---- the state is well_formed_lem, and the output has room
+-- ---- the state is well-formed, and the output has room
 
 pub record RunRoom (w log out : List ℕ) : Type 0 where
   pub formed : Formed w

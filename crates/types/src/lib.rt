@@ -1,5 +1,7 @@
 // The types that every crate shares, and the small functions on them. What these answer is in `specs/`; what the types mean, in `model`.
 
+#![tactic(auto)]
+
 pub mod configuration;
 pub mod kind;
 pub mod layout;

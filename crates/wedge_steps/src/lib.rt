@@ -1,4 +1,6 @@
-// The step that makes a replica immutable. No entry point: the state is known to be well_formed_lem, and the step's shard and index to be in range. The third
+// The step that makes a replica immutable. No entry point: the state is known to be well-formed, and the step's shard and index to be in range. The third
 // and the fourth number are tested here (7).
+
+#![tactic(auto)]
 
 pub mod wedge;

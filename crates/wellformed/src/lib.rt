@@ -1,4 +1,6 @@
 // The whole check of a state: its length, and then well-formedness, shard by shard.
+
+#![tactic(auto)]
 ghost use Rattle.std.specs.Prelude.{◌≡◌};
 ghost use Rattle.model.specs.Layout.{shards_of};
 ghost use Rattle.model.specs.WellFormed.{well_formed};
@@ -30,7 +32,7 @@ pub fn shard_count(len: usize) -> usize
         + shards_of(len, 16896, 8)
 }
 
-// Whether a state is well_formed_lem.
+// Whether a state is well-formed.
 pub fn well_formed(state: &[u64]) -> bool
     ensures { result ≡ well_formed state.now }
 {
@@ -41,7 +43,7 @@ pub fn well_formed(state: &[u64]) -> bool
     sequencer::all_differ(state, SHARD_WORDS, shards)
 }
 
-// The rejection of a state: 1 for its length, 9 where it is not well_formed_lem, else 0.
+// The rejection of a state: 1 for its length, 9 where it is not well-formed, else 0.
 pub fn state_rejection(state: &[u64]) -> u64
     ensures { result ≡ replay_rejection state.now }
 {

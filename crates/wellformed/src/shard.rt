@@ -18,7 +18,7 @@ pub fn is_sequencer(shards: usize, z: usize, q: u64) -> bool
     q != (z as u64)
 }
 
-// Whether shard z is well_formed_lem.
+// Whether shard z is well-formed.
 pub fn is_shard(state: &[u64], shards: usize, z: usize) -> bool
     requires { z * shard_words + shard_words ≤ length state.now }
     ensures { result ≡ is_shard state.now shards z }
@@ -42,7 +42,7 @@ pub fn is_shard(state: &[u64], shards: usize, z: usize) -> bool
     configuration::all_configurations(state, shards, z)
 }
 
-// Whether all shards are well_formed_lem.
+// Whether all shards are well-formed.
 pub fn all_shards(state: &[u64], shards: usize) -> bool
     requires { shards * shard_words ≤ length state.now }
     ensures { result ≡ all_below shards (is_shard state.now shards) }

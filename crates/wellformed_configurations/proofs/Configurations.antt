@@ -160,7 +160,7 @@ module _ (w : List ℕ) (Z z j : ℕ) where
   unfolding ones all_below
   no_members f h m o = rw (not_in_place h, m, o) (none f ∙ sym (and-true _))
 
--- ---- the configurations before are well_formed_lem, so the one before has few members
+-- ---- the configurations before are well-formed, so the one before has few members
 
 pub few_before : (w : List ℕ) (Z z j : ℕ) → true ≡ all_below j (is_configuration_of w Z z) → FewBefore w z j
 unfolding is_configuration_of

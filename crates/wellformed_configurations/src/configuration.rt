@@ -59,7 +59,7 @@ pub fn all_parts(state: &[u64], shards: usize, j: usize, place: usize, size: usi
     all_zero(&state[from..end])
 }
 
-// Whether configuration j of shard z is well_formed_lem.
+// Whether configuration j of shard z is well-formed.
 pub fn is_configuration_of(state: &[u64], shards: usize, z: usize, j: usize) -> bool
     requires shard_words_in_bounds { (z * shard_words + shard_words ≤ length state.now) × (j < 8) }
     requires few_before { FewBefore state.now z j }
@@ -92,7 +92,7 @@ pub fn is_configuration_of(state: &[u64], shards: usize, z: usize, j: usize) -> 
     all_zero(&state[place..end])
 }
 
-// Whether the eight configurations of shard z are well_formed_lem.
+// Whether the eight configurations of shard z are well-formed.
 pub fn all_configurations(state: &[u64], shards: usize, z: usize) -> bool
     requires { z * shard_words + shard_words ≤ length state.now }
     ensures { result ≡ all_below 8 (is_configuration_of state.now shards z) }

@@ -1,3 +1,5 @@
 // The configurations of a shard.
 
+#![tactic(auto)]
+
 pub mod configuration;

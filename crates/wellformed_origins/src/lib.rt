@@ -1,3 +1,5 @@
 // Where the replicas of a configuration began.
 
+#![tactic(auto)]
+
 pub mod origin;

@@ -1,3 +1,5 @@
 // The words of a replica.
 
+#![tactic(auto)]
+
 pub mod replica;

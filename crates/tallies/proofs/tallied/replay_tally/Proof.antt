@@ -83,7 +83,7 @@ use Rattle.tallies.proofs.tallied.replay_tally.Code as code
 use Rattle.tallies.proofs.tallied.replay_tally.Code.Mir as Mir
 use Rattle.tallies.proofs.tallied.replay_tally.Proof.Callees as calls
 use Rattle.tallies.proofs.tallied.replay_tally.Proof.Locals.{word, state, log, tally, lent, lent-tally, counting, left, fewer, holds, fails}
-use Rattle.tallies.proofs.tallied.replay_tally.Proof.Locals.{progressVal, IsProgress, known, its-report, its-count}
+use Rattle.tallies.proofs.tallied.replay_tally.Proof.Locals.{progress_val, IsProgress, known, its-report, its-count}
 use Rattle.tallies.proofs.ThreeFacts.{says_three}
 use Rattle.tallies.proofs.Tallying.{Tallying, Turned}
 use Rattle.tallies.proofs.Turning.{begins_on, begins_over}
@@ -182,10 +182,10 @@ module _ {M : Type 1} {𝓤 : Ura M} (𝓛 : Logic 𝓤) (mem : Memory → SProp
   -- from what is had at exit to the `post` of `walk_of`
   exits : (w : List ℕ) (p : Progress) (t : Tally) → budget < 2 ^ 64 → IsProgress p → length w ≡ n
       → Returns w₀ lg.now budget p.report × ((w ≡ after_replay w₀ lg.now budget) × (t ≡ tally_after t₀ w₀ lg.now budget))
-      → ent 𝓤 (⋆ 𝓛 (Held w t [])) (Post (calls.reportVal p.report))
+      → ent 𝓤 (⋆ 𝓛 (Held w t [])) (Post (calls.report_val p.report))
   exits w p t fits is long e =
       qed 𝓛 (Held w t []) ∵
-      suffices ! _ (ends_at 𝓛 replay-tally.ended stayed (replay-tally.clauses 𝓛 mem run) bound (calls.reportVal p.report) p.report
+      suffices ! _ (ends_at 𝓛 replay-tally.ended stayed (replay-tally.clauses 𝓛 mem run) bound (calls.report_val p.report) p.report
       (w, (tt, (tt, (t, tt)))) (long, (tt, (tt, (tt, tt))))) $
       suffices ! _ (says_three 𝓤 _ e.0 e.1.0 e.1.1) $
       nothing ! $ move ! (6 ∷ 0 ∷ []) $ join ! $ move ! (4 ∷ 0 ∷ []) $ join ! $ move ! (2 ∷ 0 ∷ []) $ join ! $ frame ! $
@@ -229,7 +229,7 @@ module _ {M : Type 1} {𝓤 : Ura M} (𝓛 : Logic 𝓤) (mem : Memory → SProp
           ∷ ‵ (froom R'.mir l₀ 0) ∷ ‵ (froom lent l₆ 0) ∷ ‵ (froom (slice_ty lent) l₇ 0) ∷ ‵ f₈ ∷ ‵ (froom T'.mir l₉ 0) ∷ Dies)
 
       abbrev Progressing : Progress → Fml
-      Progressing p = fat full_share P'.mir l₅ 0 (progressVal p)
+      Progressing p = fat full_share P'.mir l₅ 0 (progress_val p)
 
       -- between two turns
       abbrev At : List ℕ → Progress → Tally → List (Item 𝓤)

@@ -1,4 +1,4 @@
--- `wellformed::shard::all_shards` meets its contract. The loop's invariant: the shards before z are well_formed_lem.
+-- `wellformed::shard::all_shards` meets its contract. The loop's invariant: the shards before z are well-formed.
 use Prim.Native.Nat.{◌-◌, ◌≤◌}
 use native.Mathlib.Omega.{arith}
 use mathlib.Core.Path.{◌≡◌, refl, sym, ◌∙◌}

@@ -1,4 +1,4 @@
--- `wellformed_configurations::configuration::all_configurations` meets its contract. The loop's invariant: the configurations before j are well_formed_lem.
+-- `wellformed_configurations::configuration::all_configurations` meets its contract. The loop's invariant: the configurations before j are well-formed.
 use Prim.Native.Nat.{◌-◌, ◌≤◌}
 use native.Mathlib.Omega.{arith}
 use mathlib.Core.Path.{◌≡◌, refl, sym, ◌∙◌}

@@ -1,4 +1,4 @@
--- `wellformed_configurations::configuration::all_replicas` meets its contract. The loop's invariant: the replicas before k are well_formed_lem, and
+-- `wellformed_configurations::configuration::all_replicas` meets its contract. The loop's invariant: the replicas before k are well-formed, and
 -- the known history is proper.
 use Prim.Native.Nat.{ℕ, ◌+◌, ◌*◌, ◌-◌, ◌≤◌}
 use native.Mathlib.Omega.{arith}

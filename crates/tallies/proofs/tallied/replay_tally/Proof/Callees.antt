@@ -45,8 +45,8 @@ use Rattle.tallies.specs.contracts.tally.zero as zero
 use Rattle.tallies.specs.contracts.tally.count as count
 
 -- the machine value of a report
-abbrev pub reportVal : Report → Val
-reportVal r = LL.val R.the_type R'.the_laws r
+abbrev pub report_val : Report → Val
+report_val r = LL.val R.the_type R'.the_laws r
 
 module _ {M : Type 1} {𝓤 : Ura M} (𝓛 : Logic 𝓤) (mem : Memory → SProp 𝓤) (run : Routine → Fun 𝓤) where
   -- the contracts that the proof cites
@@ -101,9 +101,9 @@ module _ {M : Type 1} {𝓤 : Ura M} (𝓛 : Logic 𝓤) (mem : Memory → SProp
 
   abbrev pub to-turn : (Turn 𝓛 mem run).Ghost
   to-turn =
-      (((ν ∷ [], (κ, tt)), (full_share, (q, tt)), tt, (x, (lg, (budget, (r, tt)))), (s ∷ [], (l ∷ [], (vint w64 budget ∷ [], (reportVal r ∷ [], tt))))), tt)
+      (((ν ∷ [], (κ, tt)), (full_share, (q, tt)), tt, (x, (lg, (budget, (r, tt)))), (s ∷ [], (l ∷ [], (vint w64 budget ∷ [], (report_val r ∷ [], tt))))), tt)
 
-  pub goes-turn : Formed x.now × (r.rejected ≤ r.tried) → budget < 2 ^ 64 → Is R.the_row r (reportVal r ∷ [])
+  pub goes-turn : Formed x.now × (r.rejected ≤ r.tried) → budget < 2 ^ 64 → Is R.the_row r (report_val r ∷ [])
       → ent 𝓤 (sep 𝓤 (A.lft (ν ∷ []) full_share) (sep 𝓤 (sem 𝓛 ((MutSlice (named 0) (ν ∷ []) u64).own_val x (s ∷ [])))
       (sep 𝓤 (A.lft κ q) (sem 𝓛 ((ShrSlice (named 1) κ u8).own_val lg (l ∷ [])))))) ((Turn 𝓛 mem run).pre to-turn)
   goes-turn at fits is =

@@ -42,17 +42,17 @@ abbrev pub lent-tally : Ty
 lent-tally = ty_ref erased mut (pointee (T.the_row).written)
 
 -- the machine value of a progress
-abbrev pub progressVal : Progress → Val
-progressVal p = LL.val P.the_type P'.the_laws p
+abbrev pub progress_val : Progress → Val
+progress_val p = LL.val P.the_type P'.the_laws p
 
 abbrev pub IsProgress : Progress → Type 0
-IsProgress p = Is P.the_row p (progressVal p ∷ [])
+IsProgress p = Is P.the_row p (progress_val p ∷ [])
 
 pub known : (p : Progress) (v : Val) → Is P.the_row p (v ∷ []) → IsProgress p
 known p v is = subst (Is P.the_row p) (LL.tells P.the_type P'.the_laws p (v ∷ []) is) is
 
 -- what whoever holds a progress knows of its report and of its count
-pub its-report : (p : Progress) → IsProgress p → Is R.the_row p.report (calls.reportVal p.report ∷ [])
+pub its-report : (p : Progress) → IsProgress p → Is R.the_row p.report (calls.report_val p.report ∷ [])
 its-report p is = (LL.owed P.the_type P'.the_laws p _ is).0
 
 pub its-count : (p : Progress) → IsProgress p → p.count < 2 ^ 64
