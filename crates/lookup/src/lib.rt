@@ -33,7 +33,7 @@ pub fn configuration_of(state: &[u64], z: usize, j: usize) -> Configuration
 }
 
 // Where a host's replica is: its place, or the rejection 10 or 11.
-#[derive(Drop)]
+#[derive(Clone, Copy)]
 pub struct Found {
     pub answer: u64,
     pub place: usize,

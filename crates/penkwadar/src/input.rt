@@ -4,7 +4,7 @@ ghost use Rattle.io.specs.Counts.{IsPrefixLen};
 use crate::piece::{Piece, is_passing};
 
 // How many bytes were read, and whether that is the whole input, or as much of it as there is room for. If not, errno tells why.
-#[derive(Drop)]
+#[derive(Clone, Copy)]
 pub struct Input {
     pub count: usize,
     pub whole: bool,

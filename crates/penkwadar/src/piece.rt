@@ -3,7 +3,7 @@ ghost use Rattle.std.specs.Prelude.{◌≡◌};
 ghost use Rattle.penkwadar.specs.Passing.{is_passing};
 
 // How many bytes, and whether to go on: not at the end of the input, nor where the call failed for good.
-#[derive(Drop)]
+#[derive(Clone, Copy)]
 pub struct Piece {
     pub count: usize,
     pub more: bool,

@@ -6,7 +6,7 @@ pub mod copy;
 pub mod pick;
 
 // How many entries were copied, or the rejection.
-#[derive(Drop)]
+#[derive(Clone, Copy)]
 pub enum Listing {
     Entries(usize),
     Rejected(u64),

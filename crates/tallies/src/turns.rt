@@ -16,7 +16,7 @@ use types::{Reading, Report, Stop};
 const NO_COUNT: u64 = 17;
 
 // How far a replay is: its report so far, the count that the last step's rejection goes to (17: none), and whether it goes on.
-#[derive(Drop)]
+#[derive(Clone, Copy)]
 pub struct Progress {
     pub report: Report,
     pub count: u64,

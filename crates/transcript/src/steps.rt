@@ -17,7 +17,7 @@ use types::{Reading, Stop};
 const BUDGET: u64 = 65535;
 
 // What the lines of the steps give: how the run stopped, its counts, and the position after the text.
-#[derive(Drop)]
+#[derive(Clone, Copy)]
 pub struct Printed {
     pub stop: Stop,
     pub tried: u64,

@@ -5,7 +5,7 @@ ghost use Rattle.types.specs.ReplicaPlace.{replica_place};
 
 use crate::layout::REPLICA_WORDS;
 
-#[derive(Drop)]
+#[derive(Clone, Copy)]
 pub struct Configuration {
     pub place: usize,
     pub members: u64,

@@ -3,7 +3,7 @@ ghost use Rattle.std.specs.Prelude.{◌≡◌};
 ghost use Rattle.types.specs.Kinds.{kind_of, used_numbers, kind_number, kind_rejection, number_named, rejection_named};
 ghost use Rattle.types.specs.Rules.{Known, rules_of, rules_with, fourth_numbers};
 
-#[derive(Drop)]
+#[derive(Clone, Copy)]
 pub enum Kind {
     Add,
     Adopt,
@@ -18,7 +18,7 @@ pub enum Kind {
 
 // What the steps of a kind have: the rejection of the kind (3, 4, or 0), how many numbers it uses, the largest fourth number (0 where it uses
 // none), and whether the third number is the acting host.
-#[derive(Drop)]
+#[derive(Clone, Copy)]
 pub struct Rules {
     pub rejection: u64,
     pub used: usize,

@@ -8,14 +8,14 @@ pub mod layout;
 pub mod step;
 
 // What reading one number of a log gives: its value and its count of bytes, or the rejection (5 or 6).
-#[derive(Drop)]
+#[derive(Clone, Copy)]
 pub enum Number {
     Value { value: u64, bytes: usize },
     Rejected(u64),
 }
 
 // What reading one step of a log gives: the step and the position after it (at the log's start, its count of bytes), the end, or the rejection (3 to 6).
-#[derive(Drop)]
+#[derive(Clone, Copy)]
 pub enum Reading {
     Step { step: step::Step, next: usize },
     End,
@@ -24,14 +24,14 @@ pub enum Reading {
 
 // What writing to an output gives: the count of bytes, or the rejection: of a step 3, 4, 7 or 8, of the text for spreadsheets 1, 9 or 8, of the
 // transcript 8.
-#[derive(Drop)]
+#[derive(Clone, Copy)]
 pub enum Writing {
     Bytes(usize),
     Rejected(u64),
 }
 
 // How a replay stopped: no bytes left, its budget used up, at damaged bytes (3 to 6), or before its first step (1 or 9).
-#[derive(Drop)]
+#[derive(Clone, Copy)]
 pub enum Stop {
     Ended,
     Spent,
@@ -40,7 +40,7 @@ pub enum Stop {
 }
 
 // What a replay returns: how it stopped, the steps tried, those rejected, and the bytes of whole steps read.
-#[derive(Drop)]
+#[derive(Clone, Copy)]
 pub struct Report {
     pub stop: Stop,
     pub tried: u64,

@@ -5,7 +5,7 @@ ghost use Rattle.types.specs.StepNames.{shard_of, acting_host};
 
 use crate::kind::Kind;
 
-#[derive(Drop)]
+#[derive(Clone, Copy)]
 pub struct Step {
     pub kind: u64,
     pub a: u64,

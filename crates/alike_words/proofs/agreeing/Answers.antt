@@ -1,0 +1,26 @@
+-- Answers of `agreeing`.
+use Prim.Native.Nat.{◌-◌}
+use native.Mathlib.Omega.{arith}
+use mathlib.Core.Path.{sym, ◌∙◌}
+use borrow.Author.Tests.{not-true, not-false}
+use borrow.Author.Rules.{rules}
+use Rattle.alike_words.proofs.EightAtOnce.{Told, no_turn, first_turn, stops, goes_on_lem, ends, ends_before}
+use Rattle.alike_words.proofs.agreeing.Goals as goal
+
+pub returns-then-n-lt8 : goal.returns-then-n-lt8
+returns-then-n-lt8 c = no_turn _ _ c.if-n-lt8.true
+
+pub loop-p-init : goal.loop-p-init
+loop-p-init c = first_turn _ _ c.if-n-lt8.false
+
+pub returns-then-not-eight_alike : goal.returns-then-not-eight_alike
+returns-then-not-eight_alike c = stops _ _ c.loop-p-test.true c.loop-p.invariant (sym c.eight_alike.ensures ∙ not-true _ c.if-not-eight_alike.true-raw)
+
+pub loop-p-preserved : goal.loop-p-preserved
+loop-p-preserved c = goes_on_lem _ _ c.loop-p-test.true c.loop-p.invariant (sym c.eight_alike.ensures ∙ not-false _ c.if-not-eight_alike.false-raw) (omega arith)
+
+pub returns-then-eight_alike : goal.returns-then-eight_alike
+returns-then-eight_alike c = ends _ _ c.loop-p-test.false c.loop-p.invariant (sym c.eight_alike-2.ensures ∙ c.if-eight_alike.true)
+
+pub returns-else-eight_alike : goal.returns-else-eight_alike
+returns-else-eight_alike c = ends_before _ _ c.loop-p-test.false c.loop-p.invariant (sym c.eight_alike-2.ensures ∙ c.if-eight_alike.false)

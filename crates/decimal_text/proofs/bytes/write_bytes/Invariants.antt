@@ -1,0 +1,13 @@
+-- `decimal_text::bytes::write_bytes` meets its contract.
+use Prim.Native.Nat.{◌-◌}
+use native.Mathlib.Omega.{arith}
+use borrow.Author.Rules.{rules}
+use lib.ListN.{length}
+use Rattle.decimal_text.proofs.ByteStores.{Copied, copy_start, copy_more, copy_end}
+use Rattle.decimal_text.proofs.bytes.write_bytes.Given as goal
+
+abbrev pub invariant-loop-i : goal.invariant-loop-i
+invariant-loop-i l = Copied l.initial.out l.at l.text l.out l.i
+
+abbrev pub decreases-loop-i : goal.decreases-loop-i
+decreases-loop-i l = length l.text - l.i

@@ -1,0 +1,11 @@
+-- `write_number` meets its contract. The loop's invariant is `Written`; the measure is what is left of the number. Assumes nothing.
+use native.Mathlib.Omega.{arith}
+use lib.ListN.{length-set}
+use Rattle.numbers.proofs.NumberWrites.{Written, none_written, more_room, more_written, last_count, last_written}
+use Rattle.numbers.proofs.write.write_number.Given as goal
+
+abbrev pub invariant-loop-rest : goal.invariant-loop-rest
+invariant-loop-rest l = Written l.initial.out l.at l.n l.out l.rest l.i
+
+abbrev pub decreases-loop-rest : goal.decreases-loop-rest
+decreases-loop-rest l = l.rest
