@@ -10,10 +10,6 @@ use Rattle.types.specs.Rules.{fourth_numbers}
 use Rattle.log_reader.proofs.StepParts.{number_inside, step_more, step_rejected, step_done}
 use Rattle.log_reader.proofs.read_c.Goals as goal
 
--- how many numbers the kind uses
-used-number : (c : tie.After-used) → c.used.result ≡ used_numbers (kind_of c.before.before.before.before.before.before.before.args.kind)
-used-number c = rw c.before.of.ensures.1.1 at c.used.ensures
-
 pub overflow_add-next : goal.overflow_add-next
 overflow_add-next c =
     let a = c.args in
@@ -22,16 +18,18 @@ overflow_add-next c =
 pub returns-then-used-ge4 : goal.returns-then-used-ge4
 unfolding fourth_numbers
 returns-then-used-ge4 c =
+    let used_number : c.used.result ≡ used_numbers (kind_of c.args.kind) = rw c.of.ensures.value at c.used.ensures in
     let a = c.args in
-    rw (le-leb 4 (used_numbers (kind_of a.kind)) (rw (used-number u) at c.if-used-ge4.true))
+    rw (le-leb 4 (used_numbers (kind_of a.kind)) (rw (used_number) at c.if-used-ge4.true))
     (step_more a.kind (a.a ∷ a.b ∷ []) a.log.now a.at c.read_number.ensures 1 c.in-Value.is
     c.read_d.ensures)
 
 pub returns-else-used-ge4 : goal.returns-else-used-ge4
 unfolding fourth_numbers step_of
 returns-else-used-ge4 c =
+    let used_number : c.used.result ≡ used_numbers (kind_of c.args.kind) = rw c.of.ensures.value at c.used.ensures in
     let a = c.args in
-    rw (lt-leb 4 (used_numbers (kind_of a.kind)) (rw (used-number u) at c.if-used-ge4.false))
+    rw (lt-leb 4 (used_numbers (kind_of a.kind)) (rw (used_number) at c.if-used-ge4.false))
     (step_more a.kind (a.a ∷ a.b ∷ []) a.log.now a.at c.read_number.ensures 0 c.in-Value.is
     (step_done a.kind _ a.log.now _))
 

@@ -10,13 +10,6 @@ use Rattle.log_reader.proofs.StepParts.{step_none, step_from, step_inside}
 use borrow.Author.Rules.{rules}
 use Rattle.log_reader.proofs.read_step.Goals as goal
 
--- what is read in the bytes from the position on
-rest : (c : tie.After-first-step) → let a = c.before.before.before.before.args in c.first_step.result ≡ read_step (drop a.at a.log.now)
-rest c =
-    let a = c.before.before.before.before.args in
-    let whole = take_all (length a.log.now - a.at) (drop a.at a.log.now) (omega (arith, length-drop a.at a.log.now)) in
-    rw whole at c.first_step.ensures.1.1.1
-
 pub returns-then-log-at : goal.returns-then-log-at
 returns-then-log-at c =
     let t = reads_at _ _ (step_none _ _ c.if-log-at.true) in
@@ -24,23 +17,35 @@ returns-then-log-at c =
 
 pub overflow_add-result : goal.overflow_add-result
 overflow_add-result c =
+    let rest : let a = c.args in c.first_step.result ≡ read_step (drop a.at a.log.now) = let a = c.args in
+    let whole = take_all (length a.log.now - a.at) (drop a.at a.log.now) (omega (arith, length-drop a.at a.log.now)) in
+    rw whole at c.first_step.ensures.value in
     let a = c.args in
-    omega (arith, step_inside a.log.now a.at (rest s) c.in-Step.is, c.if-log-at.false)
+    omega (arith, step_inside a.log.now a.at (rest) c.in-Step.is, c.if-log-at.false)
 
 pub returns-in-Step : goal.returns-in-Step
 unfolding from
 returns-in-Step c =
-    let t = reads_at _ _ (step_from _ _ (rest c) c.in-Step.is) in
+    let rest : let a = c.args in c.first_step.result ≡ read_step (drop a.at a.log.now) = let a = c.args in
+    let whole = take_all (length a.log.now - a.at) (drop a.at a.log.now) (omega (arith, length-drop a.at a.log.now)) in
+    rw whole at c.first_step.ensures.value in
+    let t = reads_at _ _ (step_from _ _ (rest) c.in-Step.is) in
     record { result_value = t.0; result_value_2 = t.1.0; result_value_3 = t.1.1.0; value = t.1.1.1 }
 
 pub returns-in-End : goal.returns-in-End
 unfolding from
 returns-in-End c =
-    let t = reads_at _ _ (step_from _ _ (rest c) c.in-End.is) in
+    let rest : let a = c.args in c.first_step.result ≡ read_step (drop a.at a.log.now) = let a = c.args in
+    let whole = take_all (length a.log.now - a.at) (drop a.at a.log.now) (omega (arith, length-drop a.at a.log.now)) in
+    rw whole at c.first_step.ensures.value in
+    let t = reads_at _ _ (step_from _ _ (rest) c.in-End.is) in
     record { result_value = t.0; result_value_2 = t.1.0; result_value_3 = t.1.1.0; value = t.1.1.1 }
 
 pub returns-in-Rejected : goal.returns-in-Rejected
 unfolding from
 returns-in-Rejected c =
-    let t = reads_at _ _ (step_from _ _ (rest c) c.in-Rejected.is) in
+    let rest : let a = c.args in c.first_step.result ≡ read_step (drop a.at a.log.now) = let a = c.args in
+    let whole = take_all (length a.log.now - a.at) (drop a.at a.log.now) (omega (arith, length-drop a.at a.log.now)) in
+    rw whole at c.first_step.ensures.value in
+    let t = reads_at _ _ (step_from _ _ (rest) c.in-Rejected.is) in
     record { result_value = t.0; result_value_2 = t.1.0; result_value_3 = t.1.1.0; value = t.1.1.1 }
