@@ -54,7 +54,7 @@ fn last(b: u8, rest: u8) -> u8
 }
 
 // The last byte of the entry at a position.
-fn last_byte_lem(log: &[u8], at: usize) -> u8
+fn last_byte(log: &[u8], at: usize) -> u8
     requires { (at + 8 ≤ length log.now) × (get_or log.now (at + 7) 0 < 128) }
     ensures { result ≡ last_byte (entry_bytes log.now at) }
 {
@@ -81,7 +81,7 @@ pub fn is_long_add(log: &[u8], at: usize) -> bool
     if 128 <= (log[at + 1] | log[at + 2] | log[at + 7]) {
         return false;
     }
-    last_byte_lem(log, at) != 0
+    last_byte(log, at) != 0
 }
 
 // The add itself, of kind 1.

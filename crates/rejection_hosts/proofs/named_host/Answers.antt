@@ -8,7 +8,8 @@ use borrow.Author.Tests.{eqb-true, eqb-false}
 use Rattle.rejection_hosts.proofs.named_host.Goals as goal
 
 pub returns-then-answer-eq7 : goal.returns-then-answer-eq7
-returns-then-answer-eq7 c = no_orderer c.requires (⊎_elim (λ d. inl d.taken) (λ d. inr (eqb-true _ _ d.1.taken)) c.then-answer-eq7.branch) c.host-named.ensures
+returns-then-answer-eq7 c =
+    no_orderer c.requires (⊎_elim (λ d. inl d) (λ d. inr d.1) c.then-answer-eq7.either) c.host-named.ensures
 
 pub overflow_sub-j : goal.overflow_sub-j
 overflow_sub-j c = index_least c.requires c.if-answer-eq7.false

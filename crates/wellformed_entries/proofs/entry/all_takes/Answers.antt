@@ -23,7 +23,7 @@ loop-i-preserved c =
     let words = c.args.words.now in (
       omega arith,
       takes_more words (length words / 2) at.i at.joined at.before c.wrapping_sub_u64.result c.wrapping_sub_u64-in-loop-i.result
-          (search rules) c.wrapping_sub_u64.ensures (search rules) c.wrapping_sub_u64-in-loop-i.ensures at.invariant.1,
+          (search rules) c.wrapping_sub_u64.ensures.value (search rules) c.wrapping_sub_u64-in-loop-i.ensures.value at.invariant.1,
     )
 
 pub returns : goal.returns
