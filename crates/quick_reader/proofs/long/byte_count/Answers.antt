@@ -35,7 +35,7 @@ bounds-log-at-2 c =
 pub counted-c-requires : goal.counted-c-requires
 unfolding entry_bytes
 counted-c-requires c =
-    let at_4 : c.counted-d.result ≡ groups_count ((drop 3 (entry_bytes c.args.log.now c.args.at))) = count_more _ _ (count_one _ (long_last _ _ c.XX.pre)) c.counted-d.ensures in
+    let at_4 : c.counted-d.result ≡ groups_count ((drop 3 (entry_bytes c.args.log.now c.args.at))) = count_more _ _ (count_one _ (long_last _ _ c.requires)) c.counted-d.ensures in
     (omega (arith, c.type_inv.log (c.args.at + 5)), omega (arith, at_4, groups_most ((drop 3 (entry_bytes c.args.log.now c.args.at)))))
 
 pub overflow_add-at-3 : goal.overflow_add-at-3
@@ -51,7 +51,7 @@ bounds-log-at-3 c =
 pub counted-b-requires : goal.counted-b-requires
 unfolding entry_bytes
 counted-b-requires c =
-    let at_4 : c.counted-d.result ≡ groups_count ((drop 3 (entry_bytes c.args.log.now c.args.at))) = count_more _ _ (count_one _ (long_last _ _ c.XX.pre)) c.counted-d.ensures in
+    let at_4 : c.counted-d.result ≡ groups_count ((drop 3 (entry_bytes c.args.log.now c.args.at))) = count_more _ _ (count_one _ (long_last _ _ c.requires)) c.counted-d.ensures in
     let at_3 : c.counted-c.result ≡ groups_count ((drop 2 (entry_bytes c.args.log.now c.args.at))) = count_more _ _ (at_4) c.counted-c.ensures in
     (omega (arith, c.type_inv.log (c.args.at + 4)), omega (arith, at_3, groups_most ((drop 2 (entry_bytes c.args.log.now c.args.at)))))
 
@@ -68,7 +68,7 @@ bounds-log-at-4 c =
 pub counted-requires : goal.counted-requires
 unfolding entry_bytes
 counted-requires c =
-    let at_4 : c.counted-d.result ≡ groups_count ((drop 3 (entry_bytes c.args.log.now c.args.at))) = count_more _ _ (count_one _ (long_last _ _ c.XX.pre)) c.counted-d.ensures in
+    let at_4 : c.counted-d.result ≡ groups_count ((drop 3 (entry_bytes c.args.log.now c.args.at))) = count_more _ _ (count_one _ (long_last _ _ c.requires)) c.counted-d.ensures in
     let at_3 : c.counted-c.result ≡ groups_count ((drop 2 (entry_bytes c.args.log.now c.args.at))) = count_more _ _ (at_4) c.counted-c.ensures in
     let at_2 : c.counted-b.result ≡ groups_count ((drop 1 (entry_bytes c.args.log.now c.args.at))) = count_more _ _ (at_3) c.counted-b.ensures in
     (omega (arith, c.type_inv.log (c.args.at + 3)), omega (arith, at_2, groups_most ((drop 1 (entry_bytes c.args.log.now c.args.at)))))
@@ -76,7 +76,7 @@ counted-requires c =
 pub overflow_add-result : goal.overflow_add-result
 unfolding entry_bytes
 overflow_add-result c =
-    let at_4 : c.counted-d.result ≡ groups_count ((drop 3 (entry_bytes c.args.log.now c.args.at))) = count_more _ _ (count_one _ (long_last _ _ c.XX.pre)) c.counted-d.ensures in
+    let at_4 : c.counted-d.result ≡ groups_count ((drop 3 (entry_bytes c.args.log.now c.args.at))) = count_more _ _ (count_one _ (long_last _ _ c.requires)) c.counted-d.ensures in
     let at_3 : c.counted-c.result ≡ groups_count ((drop 2 (entry_bytes c.args.log.now c.args.at))) = count_more _ _ (at_4) c.counted-c.ensures in
     let at_2 : c.counted-b.result ≡ groups_count ((drop 1 (entry_bytes c.args.log.now c.args.at))) = count_more _ _ (at_3) c.counted-b.ensures in
     let at_1 : c.counted.result ≡ groups_count ((drop 0 (entry_bytes c.args.log.now c.args.at))) = count_more _ _ (at_2) c.counted.ensures in
@@ -85,7 +85,7 @@ overflow_add-result c =
 pub returns : goal.returns
 unfolding long_length entry_bytes
 returns c =
-    let at_4 : c.counted-d.result ≡ groups_count ((drop 3 (entry_bytes c.args.log.now c.args.at))) = count_more _ _ (count_one _ (long_last _ _ c.XX.pre)) c.counted-d.ensures in
+    let at_4 : c.counted-d.result ≡ groups_count ((drop 3 (entry_bytes c.args.log.now c.args.at))) = count_more _ _ (count_one _ (long_last _ _ c.requires)) c.counted-d.ensures in
     let at_3 : c.counted-c.result ≡ groups_count ((drop 2 (entry_bytes c.args.log.now c.args.at))) = count_more _ _ (at_4) c.counted-c.ensures in
     let at_2 : c.counted-b.result ≡ groups_count ((drop 1 (entry_bytes c.args.log.now c.args.at))) = count_more _ _ (at_3) c.counted-b.ensures in
     let at_1 : c.counted.result ≡ groups_count ((drop 0 (entry_bytes c.args.log.now c.args.at))) = count_more _ _ (at_2) c.counted.ensures in

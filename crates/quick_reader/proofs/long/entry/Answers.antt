@@ -48,7 +48,7 @@ bounds-log-at-3 c =
 pub joined-c-requires : goal.joined-c-requires
 unfolding entry_bytes
 joined-c-requires c =
-    let at_4 : c.joined-d.result ≡ groups_value ((drop 3 (entry_bytes c.args.log.now c.args.at))) = value_more _ _ (value_one _ (long_last _ _ c.XX.pre)) c.joined-d.ensures in
+    let at_4 : c.joined-d.result ≡ groups_value ((drop 3 (entry_bytes c.args.log.now c.args.at))) = value_more _ _ (value_one _ (long_last _ _ c.requires)) c.joined-d.ensures in
     (omega (arith, c.type_inv.log (c.args.at + 5)), omega (arith, at_4, groups_below ((drop 3 (entry_bytes c.args.log.now c.args.at)))))
 
 pub overflow_add-at-4 : goal.overflow_add-at-4
@@ -64,7 +64,7 @@ bounds-log-at-4 c =
 pub joined-b-requires : goal.joined-b-requires
 unfolding entry_bytes
 joined-b-requires c =
-    let at_4 : c.joined-d.result ≡ groups_value ((drop 3 (entry_bytes c.args.log.now c.args.at))) = value_more _ _ (value_one _ (long_last _ _ c.XX.pre)) c.joined-d.ensures in
+    let at_4 : c.joined-d.result ≡ groups_value ((drop 3 (entry_bytes c.args.log.now c.args.at))) = value_more _ _ (value_one _ (long_last _ _ c.requires)) c.joined-d.ensures in
     let at_3 : c.joined-c.result ≡ groups_value ((drop 2 (entry_bytes c.args.log.now c.args.at))) = value_more _ _ (at_4) c.joined-c.ensures in
     (omega (arith, c.type_inv.log (c.args.at + 4)), omega (arith, at_3, groups_below ((drop 2 (entry_bytes c.args.log.now c.args.at)))))
 
@@ -81,7 +81,7 @@ bounds-log-at-5 c =
 pub joined-requires : goal.joined-requires
 unfolding entry_bytes
 joined-requires c =
-    let at_4 : c.joined-d.result ≡ groups_value ((drop 3 (entry_bytes c.args.log.now c.args.at))) = value_more _ _ (value_one _ (long_last _ _ c.XX.pre)) c.joined-d.ensures in
+    let at_4 : c.joined-d.result ≡ groups_value ((drop 3 (entry_bytes c.args.log.now c.args.at))) = value_more _ _ (value_one _ (long_last _ _ c.requires)) c.joined-d.ensures in
     let at_3 : c.joined-c.result ≡ groups_value ((drop 2 (entry_bytes c.args.log.now c.args.at))) = value_more _ _ (at_4) c.joined-c.ensures in
     let at_2 : c.joined-b.result ≡ groups_value ((drop 1 (entry_bytes c.args.log.now c.args.at))) = value_more _ _ (at_3) c.joined-b.ensures in
     (omega (arith, c.type_inv.log (c.args.at + 3)), omega (arith, at_2, groups_below ((drop 1 (entry_bytes c.args.log.now c.args.at)))))
@@ -89,7 +89,7 @@ joined-requires c =
 pub returns : goal.returns
 unfolding long_entry entry_bytes
 returns c =
-    let at_4 : c.joined-d.result ≡ groups_value ((drop 3 (entry_bytes c.args.log.now c.args.at))) = value_more _ _ (value_one _ (long_last _ _ c.XX.pre)) c.joined-d.ensures in
+    let at_4 : c.joined-d.result ≡ groups_value ((drop 3 (entry_bytes c.args.log.now c.args.at))) = value_more _ _ (value_one _ (long_last _ _ c.requires)) c.joined-d.ensures in
     let at_3 : c.joined-c.result ≡ groups_value ((drop 2 (entry_bytes c.args.log.now c.args.at))) = value_more _ _ (at_4) c.joined-c.ensures in
     let at_2 : c.joined-b.result ≡ groups_value ((drop 1 (entry_bytes c.args.log.now c.args.at))) = value_more _ _ (at_3) c.joined-b.ensures in
     value_more _ _ (at_2) c.joined.ensures

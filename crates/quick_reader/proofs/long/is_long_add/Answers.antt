@@ -21,5 +21,11 @@ returns-then-log-at-ne1 c = not_passed _ (λ e. omega (arith, long_kind _ _ e, c
 pub returns-then-log-at-ge128 : goal.returns-then-log-at-ge128
 returns-then-log-at-ge128 c = not_passed _ (λ e. omega (arith, long_joined _ _ e, c.if-log-at-ge128.true))
 
+pub last_byte-requires : goal.last_byte-requires
+last_byte-requires c =
+    let a = c.args in
+    let fifth = right_most (bit_or (get_or a.log.now (a.at + 1) 0) (get_or a.log.now (a.at + 2) 0)) (get_or a.log.now (a.at + 7) 0) in
+    (omega arith, omega (arith, c.if-log-at-ge128.false))
+
 pub returns : goal.returns
-returns c = rw c.last_byte_lem.ensures (long_told _ _ (omega arith) (omega arith) (omega (arith, c.if-log-at-ge128.false)))
+returns c = rw c.last_byte.ensures (long_told _ _ (omega arith) (omega arith) (omega (arith, c.if-log-at-ge128.false)))

@@ -15,16 +15,16 @@ use borrow.Author.Rules.{rules}
 use Rattle.wellformed_replicas.proofs.replica.is_shape.Goals as goal
 
 pub returns-then-mode-lt1 : goal.returns-then-mode-lt1
-returns-then-mode-lt1 c = not_passed _ (λ e. omega (arith, (shaped _ _ e).mode-least))
+returns-then-mode-lt1 c = not_passed _ (λ e. omega (arith, (shaped _ _ e).mode_least))
 
 pub returns-then-mode-gt3 : goal.returns-then-mode-gt3
-returns-then-mode-gt3 c = not_passed _ (λ e. omega (arith, (shaped _ _ e).mode-most))
+returns-then-mode-gt3 c = not_passed _ (λ e. omega (arith, (shaped _ _ e).mode_most))
 
 pub returns-then-len-gt-MOST_ENTRIES : goal.returns-then-len-gt-MOST_ENTRIES
 returns-then-len-gt-MOST_ENTRIES c = not_passed _ (λ e. omega (arith, (shaped _ _ e).few))
 
 pub returns-then-len-stable : goal.returns-then-len-stable
-returns-then-len-stable c = not_passed _ (λ e. omega (arith, (shaped _ _ e).stable-most))
+returns-then-len-stable c = not_passed _ (λ e. omega (arith, (shaped _ _ e).stable_most))
 
 pub returns-then-not-may_wait : goal.returns-then-not-may_wait
 returns-then-not-may_wait c = not_passed _ (λ e. false≢true (sym (not-true _ c.if-not-may_wait.true-raw) ∙ c.may_wait.ensures ∙ waits_test _ _ _ (shaped _ _ e).waits))
