@@ -17,7 +17,7 @@ use Rattle.wellformed_configurations.proofs.KnownEntries.{Known, none_known, has
 use Rattle.wellformed_configurations.proofs.configuration.all_replicas.Given as goal
 
 abbrev pub invariant-loop-k : goal.invariant-loop-k
-invariant-loop-k l = (l.k ≤ l.size) × Known l.state l.shards l.known l.known-end × (true ≡ all_below l.k (λ i. is_part l.shards l.j true (part l.state (l.place + i * 64))))
+invariant-loop-k l = (l.k ≤ l.size) × Known l.state l.shards l.known l.known_end × (true ≡ all_below l.k (λ i. is_part l.shards l.j true (part l.state (l.place + i * 64))))
 
 abbrev pub decreases-loop-k : goal.decreases-loop-k
 decreases-loop-k l = l.size - l.k
