@@ -1,9 +1,6 @@
 -- Answers of `write_bytes`.
-use Prim.Native.Nat.{◌-◌}
 use native.Mathlib.Omega.{arith}
-use borrow.Author.Rules.{rules}
-use lib.ListN.{length}
-use Rattle.decimal_text.proofs.ByteStores.{Copied, copy_start, copy_more, copy_end}
+use Rattle.decimal_text.proofs.ByteStores.{copy_start, copy_more, copy_end}
 use Rattle.decimal_text.proofs.bytes.write_bytes.Goals as goal
 
 pub loop-i-init : goal.loop-i-init

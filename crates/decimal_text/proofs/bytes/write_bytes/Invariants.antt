@@ -1,9 +1,7 @@
 -- `decimal_text::bytes::write_bytes` meets its contract.
 use Prim.Native.Nat.{◌-◌}
-use native.Mathlib.Omega.{arith}
-use borrow.Author.Rules.{rules}
 use lib.ListN.{length}
-use Rattle.decimal_text.proofs.ByteStores.{Copied, copy_start, copy_more, copy_end}
+use Rattle.decimal_text.proofs.ByteStores.{Copied}
 use Rattle.decimal_text.proofs.bytes.write_bytes.Given as goal
 
 abbrev pub invariant-loop-i : goal.invariant-loop-i

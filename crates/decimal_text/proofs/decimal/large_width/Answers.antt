@@ -1,7 +1,7 @@
 -- Answers of `large_width`.
 use native.Mathlib.Omega.{arith}
 use borrow.Author.Rules.{rules}
-use Rattle.decimal_text.proofs.Digits.{Counted, count_start, count_more, count_end}
+use Rattle.decimal_text.proofs.Digits.{count_start, count_more, count_end}
 use Rattle.decimal_text.proofs.decimal.large_width.Goals as goal
 
 pub loop-rest-init : goal.loop-rest-init

@@ -1,7 +1,5 @@
 -- `decimal_text::decimal::large_width` meets its contract.
-use native.Mathlib.Omega.{arith}
-use borrow.Author.Rules.{rules}
-use Rattle.decimal_text.proofs.Digits.{Counted, count_start, count_more, count_end}
+use Rattle.decimal_text.proofs.Digits.{Counted}
 use Rattle.decimal_text.proofs.decimal.large_width.Given as goal
 
 abbrev pub invariant-loop-rest : goal.invariant-loop-rest

@@ -1,6 +1,5 @@
 -- `decimal_text::decimal::put_pair` meets its contract.
 use native.Mathlib.Omega.{arith}
-use borrow.Author.Rules.{rules}
 use lib.ListN.{length-set}
 use Rattle.decimal_text.proofs.DigitStores.{pair_stored}
 use Rattle.decimal_text.proofs.decimal.put_pair.Goals as goal
