@@ -1,6 +1,7 @@
 // Steps to bytes: a kind, then the numbers that it uses.
 
 #![tactic(auto)]
+
 ghost use Rattle.std.specs.Prelude.{◌≡◌, ◌+◌, ◌<◌, leb, length};
 ghost use Rattle.std.proofs.lemmas.List.Edits.{sets};
 ghost use Rattle.model.specs.Writer.{step_bytes, write_rejection, writing, after_writing};

@@ -4,7 +4,6 @@ use native.Mathlib.Omega.{arith}
 use mathlib.Core.Path.{sym}
 use lib.ListN.{length}
 use borrow.Author.Tests.{le-leb, lt-leb}
-use borrow.Author.Rules.{rules}
 use Rattle.log_writer.specs.WriteInParts.{bytes_of}
 use Rattle.log_writer.proofs.StepBytes.{bytes_most, room_left}
 use Rattle.log_writer.proofs.has_room.Goals as goal

@@ -1,6 +1,5 @@
 -- `step_length` meets its contract: a number takes at most five bytes, so the sums fit. Assumes nothing.
 use native.Mathlib.Omega.{arith}
-use borrow.Author.Rules.{rules}
 use Rattle.numbers.proofs.NumberLengths.{length_most}
 use Rattle.log_writer.proofs.StepBytes.{length_with_d, length_no_d}
 use Rattle.log_writer.proofs.step_length.Goals as goal

@@ -5,14 +5,13 @@ use mathlib.Core.Path.{◌≡◌, sym, ◌∙◌}
 use mathlib.Core.Bool.{true}
 use lib.Dec.{leb}
 use lib.ListN.{length}
-use borrow.Author.Tests.{leb-true, leb-false, not-true, not-false}
+use borrow.Author.Tests.{leb-true, leb-false}
 use Rattle.types.specs.Kinds.{kind_of}
 use Rattle.types.specs.Rules.{Known}
 use Rattle.model.proofs.Results.{writes_at}
 use Rattle.types.proofs.KindRules.{rejection_told, known_told, known_below}
 use Rattle.log_writer.specs.WriteInParts.{writable, bytes_of}
 use Rattle.log_writer.proofs.Rejections.{used_by, kind_refused, numbers_refused, room_refused, room, written, left}
-use borrow.Author.Rules.{rules}
 use Rattle.log_writer.proofs.write_step.Goals as goal
 
 pub returns-then-rules-ne0 : goal.returns-then-rules-ne0
@@ -27,7 +26,7 @@ pub returns-then-not-are_writable : goal.returns-then-not-are_writable
 returns-then-not-are_writable c =
     let known : Known (kind_of c.args.s.kind) = known_told _ c.of.ensures.value c.rules-rules.ensures c.if-rules-ne0.false in
     let a = c.args in
-    let e = rw c.used-used.ensures at (sym c.are_writable.ensures ∙ not-true _ c.if-not-are_writable.true-raw) in
+    let e = rw c.used-used.ensures at (sym c.are_writable.ensures ∙ c.if-not-are_writable.true) in
     let r = numbers_refused a.out.now a.at a.s (known) e in
     let t = writes_at a.out.now a.at a.s r.answer r.untouched in
     record { result_value = t.0; result_value_2 = t.1.0; value = t.1.1.0; out_after = t.1.1.1 }
@@ -40,10 +39,10 @@ has_room-requires c =
 pub returns-then-not-has_room : goal.returns-then-not-has_room
 returns-then-not-has_room c =
     let known : Known (kind_of c.args.s.kind) = known_told _ c.of.ensures.value c.rules-rules.ensures c.if-rules-ne0.false in
-    let small : let s = c.args.s in writable s (used_by s) ≡ true = rw c.used-used.ensures at (sym c.are_writable.ensures ∙ not-false _ c.if-not-are_writable.false-raw) in
+    let small : let s = c.args.s in writable s (used_by s) ≡ true = rw c.used-used.ensures at (sym c.are_writable.ensures ∙ c.if-not-are_writable.false) in
     let room_test : let a = c.args in c.has_room.result ≡ leb (a.at + length (bytes_of a.s (used_by a.s))) (length a.out.now) = rw c.used-used.ensures at c.has_room.ensures in
     let a = c.args in
-    let h = leb-false _ _ (sym (room_test) ∙ not-true _ c.if-not-has_room.true-raw) in
+    let h = leb-false _ _ (sym (room_test) ∙ c.if-not-has_room.true) in
     let r = room_refused a.out.now a.at a.s (known) (small) h in
     let t = writes_at a.out.now a.at a.s r.answer r.untouched in
     record { result_value = t.0; result_value_2 = t.1.0; value = t.1.1.0; out_after = t.1.1.1 }
@@ -51,22 +50,23 @@ returns-then-not-has_room c =
 pub write_bytes-end-requires : goal.write_bytes-end-requires
 write_bytes-end-requires c =
     let known : Known (kind_of c.args.s.kind) = known_told _ c.of.ensures.value c.rules-rules.ensures c.if-rules-ne0.false in
-    let small : let s = c.args.s in writable s (used_by s) ≡ true = rw c.used-used.ensures at (sym c.are_writable.ensures ∙ not-false _ c.if-not-are_writable.false-raw) in
+    let small : let s = c.args.s in writable s (used_by s) ≡ true = rw c.used-used.ensures at (sym c.are_writable.ensures ∙ c.if-not-are_writable.false) in
     let room_test : let a = c.args in c.has_room.result ≡ leb (a.at + length (bytes_of a.s (used_by a.s))) (length a.out.now) = rw c.used-used.ensures at c.has_room.ensures in
-    let fits : let a = c.args in a.at + length (bytes_of a.s (used_by a.s)) ≤ length a.out.now = leb-true _ _ (sym (room_test) ∙ not-false _ c.if-not-has_room.false-raw) in
+    let fits : let a = c.args in a.at + length (bytes_of a.s (used_by a.s)) ≤ length a.out.now = leb-true _ _ (sym (room_test) ∙ c.if-not-has_room.false) in
     let a = c.args in
     rw c.used-used.ensures (room a.out.now a.at a.s (known) (small) (fits))
 
 pub returns : goal.returns
 returns c =
     let known : Known (kind_of c.args.s.kind) = known_told _ c.of.ensures.value c.rules-rules.ensures c.if-rules-ne0.false in
-    let small : let s = c.args.s in writable s (used_by s) ≡ true = rw c.used-used.ensures at (sym c.are_writable.ensures ∙ not-false _ c.if-not-are_writable.false-raw) in
+    let small : let s = c.args.s in writable s (used_by s) ≡ true = rw c.used-used.ensures at (sym c.are_writable.ensures ∙ c.if-not-are_writable.false) in
     let room_test : let a = c.args in c.has_room.result ≡ leb (a.at + length (bytes_of a.s (used_by a.s))) (length a.out.now) = rw c.used-used.ensures at c.has_room.ensures in
-    let fits : let a = c.args in a.at + length (bytes_of a.s (used_by a.s)) ≤ length a.out.now = leb-true _ _ (sym (room_test) ∙ not-false _ c.if-not-has_room.false-raw) in
+    let fits : let a = c.args in a.at + length (bytes_of a.s (used_by a.s)) ≤ length a.out.now = leb-true _ _ (sym (room_test) ∙ c.if-not-has_room.false) in
     let a = c.args in
     let h = fits in
-    let e = rw c.used-used.ensures at (c.write_bytes-end.ensures.value, c.write_bytes-end.ensures.out_after) in
-    let count : c.write_bytes-end.result - a.at ≡ length (bytes_of a.s (used_by a.s)) = omega (arith, e.0) in
+    let end = rw c.used-used.ensures at c.write_bytes-end.ensures.value in
+    let stored = rw c.used-used.ensures at c.write_bytes-end.ensures.out_after in
+    let count : c.write_bytes-end.result - a.at ≡ length (bytes_of a.s (used_by a.s)) = omega (arith, end) in
     let t = writes_at a.out.now a.at a.s (rw count (written a.out.now a.at a.s (known) (small) h))
-    (e.1 ∙ left a.out.now a.at a.s (known) (small) h) in
+    (stored ∙ left a.out.now a.at a.s (known) (small) h) in
     record { result_value = t.0; result_value_2 = t.1.0; value = t.1.1.0; out_after = t.1.1.1 }
