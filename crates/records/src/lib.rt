@@ -2,6 +2,7 @@
 // `csv_rows`: `Csv`.
 
 #![tactic(auto)]
+
 ghost use Rattle.std.specs.Prelude.{◌≡◌};
 ghost use Rattle.model.specs.Results.{writing_number, writing_count};
 ghost use Rattle.csv_rows.specs.Csv.{csv_rejection, csv_count, csv_writing, after_csv};
