@@ -1,0 +1,16 @@
+-- `setup::plan::all_planned` meets its contract.
+use Prim.Native.Nat.{◌≤◌, ◌-◌}
+use mathlib.Core.Path.{◌≡◌, refl, sym, ◌∙◌}
+use mathlib.Core.Bool.{true}
+use borrow.Author.Tests.{not-true, not-false}
+use Rattle.model.specs.Tests.{all_below}
+use Rattle.model.specs.Setup.{is_planned_shard}
+use Rattle.model.proofs.Ranges.{more, fails, reached}
+use borrow.Author.Rules.{rules}
+use Rattle.setup.proofs.plan.all_planned.Given as goal
+
+abbrev pub invariant-loop-z : goal.invariant-loop-z
+invariant-loop-z l = (l.z ≤ l.shards) × (true ≡ all_below l.z (is_planned_shard l.shards l.plan))
+
+abbrev pub decreases-loop-z : goal.decreases-loop-z
+decreases-loop-z l = l.shards - l.z
