@@ -14,10 +14,10 @@ pub loop-p-init : goal.loop-p-init
 loop-p-init c = first_turn _ _ c.if-n-lt8.false
 
 pub returns-then-not-eight_alike : goal.returns-then-not-eight_alike
-returns-then-not-eight_alike c = stops _ _ c.loop-p-test.true c.loop-p.invariant (sym c.eight_alike.ensures ∙ not-true _ c.if-not-eight_alike.true-raw)
+returns-then-not-eight_alike c = stops _ _ c.loop-p-test.true c.loop-p.invariant (sym c.eight_alike.ensures ∙ c.if-not-eight_alike.true)
 
 pub loop-p-preserved : goal.loop-p-preserved
-loop-p-preserved c = goes_on_lem _ _ c.loop-p-test.true c.loop-p.invariant (sym c.eight_alike.ensures ∙ not-false _ c.if-not-eight_alike.false-raw) (omega arith)
+loop-p-preserved c = goes_on_lem _ _ c.loop-p-test.true c.loop-p.invariant (sym c.eight_alike.ensures ∙ c.if-not-eight_alike.false) (omega arith)
 
 pub returns-then-eight_alike : goal.returns-then-eight_alike
 returns-then-eight_alike c = ends _ _ c.loop-p-test.false c.loop-p.invariant (sym c.eight_alike-2.ensures ∙ c.if-eight_alike.true)

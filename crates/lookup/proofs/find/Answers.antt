@@ -18,13 +18,13 @@ has-member h e f = f ∙ ap (λ (y : Configuration). has_member y.members h) e
 
 pub returns-then-not-is_installed : goal.returns-then-not-is_installed
 unfolding found_of
-returns-then-not-is_installed c = (simp (sym c.is_installed.ensures ∙ not-true _ c.if-not-is_installed.true-raw), start_placed c.requires.ready)
+returns-then-not-is_installed c = (simp (sym c.is_installed.ensures ∙ c.if-not-is_installed.true), start_placed c.requires.ready)
 
 pub returns-then-not-has : goal.returns-then-not-has
 unfolding found_of configuration
 returns-then-not-has c =
     let m = has-member c.args.host c.configuration_of-c.ensures c.has.ensures in
-    (simp (sym c.is_installed.ensures ∙ not-false _ c.if-not-is_installed.false-raw, sym m ∙ not-true _ c.if-not-has.true-raw), start_placed c.requires.ready)
+    (simp (sym c.is_installed.ensures ∙ c.if-not-is_installed.false, sym m ∙ c.if-not-has.true), start_placed c.requires.ready)
 
 pub replica-requires : goal.replica-requires
 replica-requires c = (c.requires.host, rw c.configuration_of-c.ensures (small_place c.requires.ready))
@@ -33,6 +33,6 @@ pub returns : goal.returns
 unfolding found_of configuration
 returns c =
     let h = c.args.host in
-    let m = sym (has-member h c.configuration_of-c.ensures c.has.ensures) ∙ not-false _ c.if-not-has.false-raw in
+    let m = sym (has-member h c.configuration_of-c.ensures c.has.ensures) ∙ c.if-not-has.false in
     let p = c.replica.ensures ∙ ap (λ (x : Configuration). replica_place x h) c.configuration_of-c.ensures in
-    (simp (p, sym c.is_installed.ensures ∙ not-false _ c.if-not-is_installed.false-raw, m), rw p (member_placed c.requires.ready h m))
+    (simp (p, sym c.is_installed.ensures ∙ c.if-not-is_installed.false, m), rw p (member_placed c.requires.ready h m))

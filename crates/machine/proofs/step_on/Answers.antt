@@ -32,7 +32,7 @@ returns-then-not-well_formed c =
 pub act-requires : goal.act-requires
 act-requires c =
     let a = c.args in
-    let formed = sym c.well_formed-2.ensures ∙ not-false _ c.if-not-well_formed.false-raw in
+    let formed = sym c.well_formed-2.ensures ∙ c.if-not-well_formed.false in
     record {
       state = formed_of a.state.now (λ q. c.requires.some (c.requires.count ∙ q)) formed;
       count = c.requires.count;

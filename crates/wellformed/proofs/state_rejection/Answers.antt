@@ -19,8 +19,8 @@ well_formed-requires c = tt
 
 pub returns-then-not-well_formed : goal.returns-then-not-well_formed
 unfolding replay_rejection is_state_length first_of
-returns-then-not-well_formed c = rw (le-leb 2 _ (several _ (λ e. c.if-shard_count-eq0.false (c.shard_count.ensures ∙ e))), sym c.well_formed-2.ensures ∙ not-true _ c.if-not-well_formed.true-raw)
+returns-then-not-well_formed c = rw (le-leb 2 _ (several _ (λ e. c.if-shard_count-eq0.false (c.shard_count.ensures ∙ e))), sym c.well_formed-2.ensures ∙ c.if-not-well_formed.true)
 
 pub returns : goal.returns
 unfolding replay_rejection is_state_length first_of
-returns c = rw (le-leb 2 _ (several _ (λ e. c.if-shard_count-eq0.false (c.shard_count.ensures ∙ e))), sym c.well_formed-2.ensures ∙ not-false _ c.if-not-well_formed.false-raw)
+returns c = rw (le-leb 2 _ (several _ (λ e. c.if-shard_count-eq0.false (c.shard_count.ensures ∙ e))), sym c.well_formed-2.ensures ∙ c.if-not-well_formed.false)

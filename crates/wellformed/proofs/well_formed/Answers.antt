@@ -14,7 +14,7 @@ all_shards-requires c = rw c.shard_count-shards.ensures (shards_fit _)
 
 pub returns-then-not-all_shards : goal.returns-then-not-all_shards
 unfolding well_formed
-returns-then-not-all_shards c = rw (← c.shard_count-shards.ensures, sym c.all_shards.ensures ∙ not-true _ c.if-not-all_shards.true-raw)
+returns-then-not-all_shards c = rw (← c.shard_count-shards.ensures, sym c.all_shards.ensures ∙ c.if-not-all_shards.true)
 
 pub all_differ-requires : goal.all_differ-requires
 all_differ-requires c = rw c.shard_count-shards.ensures (sequencers_spaced _)
@@ -22,5 +22,5 @@ all_differ-requires c = rw c.shard_count-shards.ensures (sequencers_spaced _)
 pub returns : goal.returns
 unfolding well_formed
 returns c =
-    let formed = sym c.all_shards.ensures ∙ not-false _ c.if-not-all_shards.false-raw in
+    let formed = sym c.all_shards.ensures ∙ c.if-not-all_shards.false in
     rw (← c.shard_count-shards.ensures, formed, sequencers_differ) c.all_differ.ensures

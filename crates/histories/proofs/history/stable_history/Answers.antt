@@ -16,28 +16,34 @@ returns-then-shards-eq0 c =
 pub returns-then-shards-shard : goal.returns-then-shards-shard
 returns-then-shards-shard c =
     let a = c.args in
-    let t = rejects_shard a.state.now a.shard a.out.now (λ q. c.if-shards-eq0.false (c.shard_count-shards.ensures ∙ q)) (omega (arith, c.shard_count-shards.ensures, c.if-shards-shard)) in
+    let t = rejects_shard a.state.now a.shard a.out.now (λ q. c.if-shards-eq0.false (c.shard_count-shards.ensures ∙ q)) (omega (arith, c.shard_count-shards.ensures)) in
     record { result_value = t.0; result_value_2 = t.1.0; value = t.1.1.0; out_after = t.1.1.1 }
 
 pub returns-then-not-well_formed : goal.returns-then-not-well_formed
 returns-then-not-well_formed c =
     let a = c.args in
-    let t = rejects_form a.state.now a.shard a.out.now (λ q. c.if-shards-eq0.false (c.shard_count-shards.ensures ∙ q)) (omega (arith, c.shard_count-shards.ensures, c.if-shards-shard))
-    (sym c.well_formed-2.ensures ∙ not-true _ c.if-not-well_formed.true-raw) in
+    let t = rejects_form a.state.now a.shard a.out.now (λ q. c.if-shards-eq0.false (c.shard_count-shards.ensures ∙ q)) (omega (arith, c.shard_count-shards.ensures))
+    (sym c.well_formed-2.ensures ∙ c.if-not-well_formed.true) in
     record { result_value = t.0; result_value_2 = t.1.0; value = t.1.1.0; out_after = t.1.1.1 }
 
 pub longest-place-requires : goal.longest-place-requires
 longest-place-requires c =
     let a = c.args in
-    of_shard a.state.now a.shard (λ q. c.if-shards-eq0.false (c.shard_count-shards.ensures ∙ q)) (omega (arith, c.shard_count-shards.ensures, c.if-shards-shard))
-    (sym c.well_formed-2.ensures ∙ not-false _ c.if-not-well_formed.false-raw)
+    of_shard a.state.now a.shard (λ q. c.if-shards-eq0.false (c.shard_count-shards.ensures ∙ q)) (omega (arith, c.shard_count-shards.ensures))
+    (sym c.well_formed-2.ensures ∙ c.if-not-well_formed.false)
 
 pub copy_entries-requires : goal.copy_entries-requires
-copy_entries-requires c = picked (longest-requires c c.longest-place.lifetimes) c.longest-place.ensures
+copy_entries-requires c =
+    let a = c.args in
+    let r = of_shard a.state.now a.shard (λ q. c.if-shards-eq0.false (c.shard_count-shards.ensures ∙ q)) (omega (arith, c.shard_count-shards.ensures))
+            (sym c.well_formed-2.ensures ∙ c.if-not-well_formed.false) in
+    picked r c.longest-place.ensures
 
 pub returns : goal.returns
 returns c =
     let a = c.args in
-    let e = lists a.state.now a.shard a.out.now (longest-requires c c.longest-place.lifetimes) c.longest-place.ensures in
+    let r = of_shard a.state.now a.shard (λ q. c.if-shards-eq0.false (c.shard_count-shards.ensures ∙ q)) (omega (arith, c.shard_count-shards.ensures))
+            (sym c.well_formed-2.ensures ∙ c.if-not-well_formed.false) in
+    let e = lists a.state.now a.shard a.out.now r c.longest-place.ensures in
     let t = answers a.state.now a.shard a.out.now (c.copy_entries.ensures.value ∙ e.0) (c.copy_entries.ensures.out_after ∙ e.1) in
     record { result_value = t.0; result_value_2 = t.1.0; value = t.1.1.0; out_after = t.1.1.1 }

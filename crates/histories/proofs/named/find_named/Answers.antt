@@ -24,7 +24,7 @@ returns-then-not-is_replica_name c =
     let a = c.args in
     nowhere_as a.state.now a.shard a.index a.host 7 (λ q. omega arith)
     (no_name a.state.now a.shard a.index a.host (λ q. c.if-shards-eq0.false (c.shard_count-shards.ensures ∙ q))
-    (named-as a.shard a.index a.host c.shard_count-shards.ensures c.is_replica_name.ensures ∙ not-true _ c.if-not-is_replica_name.true-raw))
+    (named-as a.shard a.index a.host c.shard_count-shards.ensures c.is_replica_name.ensures ∙ c.if-not-is_replica_name.true))
     c.nowhere-then-not-is_replica_name.ensures
 
 pub returns-then-not-well_formed : goal.returns-then-not-well_formed
@@ -32,27 +32,27 @@ returns-then-not-well_formed c =
     let a = c.args in
     nowhere_as a.state.now a.shard a.index a.host 9 (λ q. omega arith)
     (no_form a.state.now a.shard a.index a.host (λ q. c.if-shards-eq0.false (c.shard_count-shards.ensures ∙ q))
-    (named-as a.shard a.index a.host c.shard_count-shards.ensures c.is_replica_name.ensures ∙ not-false _ c.if-not-is_replica_name.false-raw)
-    (sym c.well_formed-2.ensures ∙ not-true _ c.if-not-well_formed.true-raw))
+    (named-as a.shard a.index a.host c.shard_count-shards.ensures c.is_replica_name.ensures ∙ c.if-not-is_replica_name.false)
+    (sym c.well_formed-2.ensures ∙ c.if-not-well_formed.true))
     c.nowhere-then-not-well_formed.ensures
 
 pub overflow_sub-index : goal.overflow_sub-index
 overflow_sub-index c =
     let a = c.args in
-    let is_named = sym c.is_replica_name.ensures ∙ not-false _ c.if-not-is_replica_name.false-raw in
+    let is_named = sym c.is_replica_name.ensures ∙ c.if-not-is_replica_name.false in
     omega (arith, (named c.shard_count-shards.result a.shard a.index a.host is_named).least)
 
 pub find-requires : goal.find-requires
 find-requires c =
     let a = c.args in
     ready_host a.state.now a.shard a.index a.host (λ q. c.if-shards-eq0.false (c.shard_count-shards.ensures ∙ q))
-    (named-as a.shard a.index a.host c.shard_count-shards.ensures c.is_replica_name.ensures ∙ not-false _ c.if-not-is_replica_name.false-raw)
-    (sym c.well_formed-2.ensures ∙ not-false _ c.if-not-well_formed.false-raw)
+    (named-as a.shard a.index a.host c.shard_count-shards.ensures c.is_replica_name.ensures ∙ c.if-not-is_replica_name.false)
+    (sym c.well_formed-2.ensures ∙ c.if-not-well_formed.false)
 
 pub returns : goal.returns
 returns c =
     let a = c.args in
     c.find.ensures.0
     ∙ found_as a.state.now a.shard a.index a.host (λ q. c.if-shards-eq0.false (c.shard_count-shards.ensures ∙ q))
-    (named-as a.shard a.index a.host c.shard_count-shards.ensures c.is_replica_name.ensures ∙ not-false _ c.if-not-is_replica_name.false-raw)
-    (sym c.well_formed-2.ensures ∙ not-false _ c.if-not-well_formed.false-raw)
+    (named-as a.shard a.index a.host c.shard_count-shards.ensures c.is_replica_name.ensures ∙ c.if-not-is_replica_name.false)
+    (sym c.well_formed-2.ensures ∙ c.if-not-well_formed.false)

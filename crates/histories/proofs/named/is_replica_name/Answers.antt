@@ -8,8 +8,8 @@ use Rattle.histories.proofs.named.is_replica_name.Goals as goal
 
 pub returns-then-not-is_index_of : goal.returns-then-not-is_index_of
 unfolding is_replica_name is_host
-returns-then-not-is_index_of c = simp (sym c.is_index_of.ensures ∙ not-true _ c.if-not-is_index_of.true-raw)
+returns-then-not-is_index_of c = simp (sym c.is_index_of.ensures ∙ c.if-not-is_index_of.true)
 
 pub returns : goal.returns
 unfolding is_replica_name is_host
-returns c = simp (sym c.is_index_of.ensures ∙ not-false _ c.if-not-is_index_of.false-raw)
+returns c = simp (sym c.is_index_of.ensures ∙ c.if-not-is_index_of.false)

@@ -12,8 +12,8 @@ returns-then-plan-shards c = simp (ne_eqb _ _ c.if-plan-shards.true)
 
 pub returns-then-not-all_planned : goal.returns-then-not-all_planned
 unfolding is_plan
-returns-then-not-all_planned c = simp (eq-eqb _ _ c.if-plan-shards.false, sym c.all_planned.ensures ∙ not-true _ c.if-not-all_planned.true-raw)
+returns-then-not-all_planned c = simp (eq-eqb _ _ c.if-plan-shards.false, sym c.all_planned.ensures ∙ c.if-not-all_planned.true)
 
 pub returns : goal.returns
 unfolding is_plan
-returns c = simp (eq-eqb _ _ c.if-plan-shards.false, sym c.all_planned.ensures ∙ not-false _ c.if-not-all_planned.false-raw, sequencers_differ) c.all_differ.ensures
+returns c = simp (eq-eqb _ _ c.if-plan-shards.false, sym c.all_planned.ensures ∙ c.if-not-all_planned.false, sequencers_differ) c.all_differ.ensures

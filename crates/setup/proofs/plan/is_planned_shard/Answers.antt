@@ -7,8 +7,8 @@ use Rattle.setup.proofs.plan.is_planned_shard.Goals as goal
 
 pub returns-then-not-is_sequencer : goal.returns-then-not-is_sequencer
 unfolding is_planned_shard plan_sequencer plan_members plan_orderer
-returns-then-not-is_sequencer c = simp (sym c.is_sequencer.ensures ∙ not-true _ c.if-not-is_sequencer.true-raw)
+returns-then-not-is_sequencer c = simp (sym c.is_sequencer.ensures ∙ c.if-not-is_sequencer.true)
 
 pub returns : goal.returns
 unfolding is_planned_shard plan_sequencer plan_members plan_orderer
-returns c = simp (c.is_configuration.ensures, sym c.is_sequencer.ensures ∙ not-false _ c.if-not-is_sequencer.false-raw)
+returns c = simp (c.is_configuration.ensures, sym c.is_sequencer.ensures ∙ c.if-not-is_sequencer.false)

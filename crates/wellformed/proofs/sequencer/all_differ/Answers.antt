@@ -30,12 +30,12 @@ differs_below-requires c = record { within = λ k h. c.requires.within k (omega 
 
 pub returns-then-not-differs_below : goal.returns-then-not-differs_below
 unfolding all_differ
-returns-then-not-differs_below c = fails _ c.loop-a.a _ (search rules) (sym (not-true _ c.if-not-differs_below.true-raw) ∙ c.differs_below.ensures)
+returns-then-not-differs_below c = fails _ c.loop-a.a _ (search rules) (sym c.if-not-differs_below.true ∙ c.differs_below.ensures)
 
 pub loop-a-preserved : goal.loop-a-preserved
 loop-a-preserved c =
     let l = c.loop-a in
-    (search rules, more l.a _ l.invariant.1 (sym (not-false _ c.if-not-differs_below.false-raw) ∙ c.differs_below.ensures))
+    (search rules, more l.a _ l.invariant.1 (sym c.if-not-differs_below.false ∙ c.differs_below.ensures))
 
 pub returns : goal.returns
 unfolding all_differ

@@ -14,12 +14,12 @@ unfolding all_below
 loop-z-init c = (omega arith, refl)
 
 pub returns-then-not-is_shard : goal.returns-then-not-is_shard
-returns-then-not-is_shard c = fails _ c.loop-z.z _ (omega arith) (sym (not-true _ c.if-not-is_shard.true-raw) ∙ c.is_shard.ensures)
+returns-then-not-is_shard c = fails _ c.loop-z.z _ (omega arith) (sym c.if-not-is_shard.true ∙ c.is_shard.ensures)
 
 pub loop-z-preserved : goal.loop-z-preserved
 loop-z-preserved c =
     let at = c.loop-z in
-    (omega arith, more at.z _ at.invariant.1 (sym (not-false _ c.if-not-is_shard.false-raw) ∙ c.is_shard.ensures))
+    (omega arith, more at.z _ at.invariant.1 (sym c.if-not-is_shard.false ∙ c.is_shard.ensures))
 
 pub returns : goal.returns
 returns c = reached _ c.loop-z.z _ _ (omega arith) (omega arith) c.loop-z.invariant.1

@@ -11,7 +11,7 @@ pub is_sequencer-requires : goal.is_sequencer-requires
 is_sequencer-requires c = tt
 
 pub returns-then-not-is_sequencer : goal.returns-then-not-is_sequencer
-returns-then-not-is_sequencer c = wrong_sequencer _ _ _ c.requires (sym (not-true _ c.if-not-is_sequencer.true-raw) ∙ c.is_sequencer.ensures)
+returns-then-not-is_sequencer c = wrong_sequencer _ _ _ c.requires (sym c.if-not-is_sequencer.true ∙ c.is_sequencer.ensures)
 
 pub returns-then-installed-lt1 : goal.returns-then-installed-lt1
 returns-then-installed-lt1 c = too_few _ _ _ c.requires c.if-installed-lt1.true
@@ -23,10 +23,10 @@ pub all_zero-requires : goal.all_zero-requires
 all_zero-requires c = tt
 
 pub returns-then-not-all_zero : goal.returns-then-not-all_zero
-returns-then-not-all_zero c = some_rest _ _ _ c.requires (sym (not-true _ c.if-not-all_zero.true-raw) ∙ (rw add-sub_cancel_left at c.all_zero.ensures))
+returns-then-not-all_zero c = some_rest _ _ _ c.requires (sym c.if-not-all_zero.true ∙ (rw add-sub_cancel_left at c.all_zero.ensures))
 
 pub returns : goal.returns
 returns c =
     c.all_configurations.ensures
-    ∙ only_configurations _ _ _ c.requires (sym (not-false _ c.if-not-is_sequencer.false-raw) ∙ c.is_sequencer.ensures)
-    c.if-installed-lt1.false c.if-installed-gt8.false (sym (not-false _ c.if-not-all_zero.false-raw) ∙ (rw add-sub_cancel_left at c.all_zero.ensures))
+    ∙ only_configurations _ _ _ c.requires (sym c.if-not-is_sequencer.false ∙ c.is_sequencer.ensures)
+    c.if-installed-lt1.false c.if-installed-gt8.false (sym c.if-not-all_zero.false ∙ (rw add-sub_cancel_left at c.all_zero.ensures))

@@ -7,9 +7,9 @@ use borrow.Author.Rules.{rules}
 use Rattle.wellformed_configurations.proofs.configuration.all_parts.Goals as goal
 
 pub returns-then-not-all_replicas : goal.returns-then-not-all_replicas
-returns-then-not-all_replicas c = wrong_replicas _ _ _ _ _ c.requires.0 c.requires.1 (sym (not-true _ c.if-not-all_replicas.true-raw) ∙ c.all_replicas.ensures)
+returns-then-not-all_replicas c = wrong_replicas _ _ _ _ _ c.requires.0 c.requires.1 (sym c.if-not-all_replicas.true ∙ c.all_replicas.ensures)
 
 pub returns : goal.returns
 returns c =
     c.all_zero.ensures
-    ∙ right_replicas _ _ _ _ _ c.requires.0 c.requires.1 (sym (not-false _ c.if-not-all_replicas.false-raw) ∙ c.all_replicas.ensures)
+    ∙ right_replicas _ _ _ _ _ c.requires.0 c.requires.1 (sym c.if-not-all_replicas.false ∙ c.all_replicas.ensures)

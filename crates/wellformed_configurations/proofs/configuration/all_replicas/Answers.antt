@@ -22,40 +22,40 @@ loop-k-init c = (omega arith, none_known c.args.state.now _ c.args.place (omega 
 pub returns-then-not-is_shape : goal.returns-then-not-is_shape
 returns-then-not-is_shape c =
     let a = c.args in
-    let wrong = sym (not-true _ c.if-not-is_shape.true-raw) ∙ c.is_shape.ensures in
+    let wrong = sym c.if-not-is_shape.true ∙ c.is_shape.ensures in
     fails _ c.loop-k.k _ (omega arith) (misshapen a.state.now _ _ (a.place + c.loop-k.k * 64) (omega arith) wrong)
 
 pub overflow_add-last-in-loop-k : goal.overflow_add-last-in-loop-k
 overflow_add-last-in-loop-k c =
-    let shape : true ≡ has_shape c.args.state.now c.args.j ((c.args.place + c.loop-k.k * 64)) = sym (not-false _ c.if-not-is_shape.false-raw) ∙ c.is_shape.ensures in
+    let shape : true ≡ has_shape c.args.state.now c.args.j ((c.args.place + c.loop-k.k * 64)) = sym c.if-not-is_shape.false ∙ c.is_shape.ensures in
     let fits : (c.args.place + c.loop-k.k * 64) + 64 ≤ length c.args.state.now = omega arith in
     let few : get_or c.args.state.now ((c.args.place + c.loop-k.k * 64) + 1) 0 ≤ 56 = few_entries c.args.state.now 0 _ ((c.args.place + c.loop-k.k * 64)) (fits) (shape) in
     omega (arith, few)
 
 pub offset_bounds-state-first : goal.offset_bounds-state-first
 offset_bounds-state-first c =
-    let shape : true ≡ has_shape c.args.state.now c.args.j ((c.args.place + c.loop-k.k * 64)) = sym (not-false _ c.if-not-is_shape.false-raw) ∙ c.is_shape.ensures in
+    let shape : true ≡ has_shape c.args.state.now c.args.j ((c.args.place + c.loop-k.k * 64)) = sym c.if-not-is_shape.false ∙ c.is_shape.ensures in
     let fits : (c.args.place + c.loop-k.k * 64) + 64 ≤ length c.args.state.now = omega arith in
     let few : get_or c.args.state.now ((c.args.place + c.loop-k.k * 64) + 1) 0 ≤ 56 = few_entries c.args.state.now 0 _ ((c.args.place + c.loop-k.k * 64)) (fits) (shape) in
     omega (arith, few)
 
 pub slice_bounds-is_known-count : goal.slice_bounds-is_known-count
 slice_bounds-is_known-count c =
-    let shape : true ≡ has_shape c.args.state.now c.args.j ((c.args.place + c.loop-k.k * 64)) = sym (not-false _ c.if-not-is_shape.false-raw) ∙ c.is_shape.ensures in
+    let shape : true ≡ has_shape c.args.state.now c.args.j ((c.args.place + c.loop-k.k * 64)) = sym c.if-not-is_shape.false ∙ c.is_shape.ensures in
     let fits : (c.args.place + c.loop-k.k * 64) + 64 ≤ length c.args.state.now = omega arith in
     let few : get_or c.args.state.now ((c.args.place + c.loop-k.k * 64) + 1) 0 ≤ 56 = few_entries c.args.state.now 0 _ ((c.args.place + c.loop-k.k * 64)) (fits) (shape) in
     omega (arith, few)
 
 pub slice_bounds-is_known-start : goal.slice_bounds-is_known-start
 slice_bounds-is_known-start c =
-    let shape : true ≡ has_shape c.args.state.now c.args.j ((c.args.place + c.loop-k.k * 64)) = sym (not-false _ c.if-not-is_shape.false-raw) ∙ c.is_shape.ensures in
+    let shape : true ≡ has_shape c.args.state.now c.args.j ((c.args.place + c.loop-k.k * 64)) = sym c.if-not-is_shape.false ∙ c.is_shape.ensures in
     let fits : (c.args.place + c.loop-k.k * 64) + 64 ≤ length c.args.state.now = omega arith in
     let few : get_or c.args.state.now ((c.args.place + c.loop-k.k * 64) + 1) 0 ≤ 56 = few_entries c.args.state.now 0 _ ((c.args.place + c.loop-k.k * 64)) (fits) (shape) in
     omega (arith, few)
 
 pub slice_bounds-is_known-end : goal.slice_bounds-is_known-end
 slice_bounds-is_known-end c =
-    let shape : true ≡ has_shape c.args.state.now c.args.j ((c.args.place + c.loop-k.k * 64)) = sym (not-false _ c.if-not-is_shape.false-raw) ∙ c.is_shape.ensures in
+    let shape : true ≡ has_shape c.args.state.now c.args.j ((c.args.place + c.loop-k.k * 64)) = sym c.if-not-is_shape.false ∙ c.is_shape.ensures in
     let fits : (c.args.place + c.loop-k.k * 64) + 64 ≤ length c.args.state.now = omega arith in
     let few : get_or c.args.state.now ((c.args.place + c.loop-k.k * 64) + 1) 0 ≤ 56 = few_entries c.args.state.now 0 _ ((c.args.place + c.loop-k.k * 64)) (fits) (shape) in
     omega (arith, few)
@@ -65,7 +65,7 @@ is_known-requires c = tt
 
 pub slice_bounds-each_entry-end : goal.slice_bounds-each_entry-end
 slice_bounds-each_entry-end c =
-    let shape : true ≡ has_shape c.args.state.now c.args.j ((c.args.place + c.loop-k.k * 64)) = sym (not-false _ c.if-not-is_shape.false-raw) ∙ c.is_shape.ensures in
+    let shape : true ≡ has_shape c.args.state.now c.args.j ((c.args.place + c.loop-k.k * 64)) = sym c.if-not-is_shape.false ∙ c.is_shape.ensures in
     let fits : (c.args.place + c.loop-k.k * 64) + 64 ≤ length c.args.state.now = omega arith in
     let few : get_or c.args.state.now ((c.args.place + c.loop-k.k * 64) + 1) 0 ≤ 56 = few_entries c.args.state.now 0 _ ((c.args.place + c.loop-k.k * 64)) (fits) (shape) in
     omega (arith, few)
@@ -75,16 +75,16 @@ each_entry-requires c = tt
 
 pub returns-then-not-each_entry : goal.returns-then-not-each_entry
 returns-then-not-each_entry c =
-    let shape : true ≡ has_shape c.args.state.now c.args.j ((c.args.place + c.loop-k.k * 64)) = sym (not-false _ c.if-not-is_shape.false-raw) ∙ c.is_shape.ensures in
+    let shape : true ≡ has_shape c.args.state.now c.args.j ((c.args.place + c.loop-k.k * 64)) = sym c.if-not-is_shape.false ∙ c.is_shape.ensures in
     let fits : (c.args.place + c.loop-k.k * 64) + 64 ≤ length c.args.state.now = omega arith in
     let at = c.loop-k in
-    let improper = sym (not-true _ c.if-not-each_entry.true-raw) ∙ c.each_entry.ensures in
+    let improper = sym c.if-not-each_entry.true ∙ c.each_entry.ensures in
     fails _ at.k _ (omega arith) (by_entries c.args.state.now _ _ ((c.args.place + c.loop-k.k * 64)) (fits) (shape) improper)
 
 pub loop-k-preserved : goal.loop-k-preserved
 loop-k-preserved c =
     let next : c.loop-k.k + 1 ≤ c.args.size = omega arith in
-    let shape : true ≡ has_shape c.args.state.now c.args.j ((c.args.place + c.loop-k.k * 64)) = sym (not-false _ c.if-not-is_shape.false-raw) ∙ c.is_shape.ensures in
+    let shape : true ≡ has_shape c.args.state.now c.args.j ((c.args.place + c.loop-k.k * 64)) = sym c.if-not-is_shape.false ∙ c.is_shape.ensures in
     let fits : (c.args.place + c.loop-k.k * 64) + 64 ≤ length c.args.state.now = omega arith in
     let from : ℕ = c.args.place + c.loop-k.k * 64 in
     let turn : Known c.args.state.now c.args.shards c.if-not-is_known.known c.if-not-is_known.known_end

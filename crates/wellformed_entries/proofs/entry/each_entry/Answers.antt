@@ -21,35 +21,35 @@ pub is_entry-requires : goal.is_entry-requires
 is_entry-requires c = tt
 
 pub returns-then-not-is_entry : goal.returns-then-not-is_entry
-returns-then-not-is_entry c = rw of_below (fails _ _ _ (omega arith) (sym (not-true _ c.if-not-is_entry.true-raw) ∙ c.is_entry.ensures))
+returns-then-not-is_entry c = rw of_below (fails _ _ _ (omega arith) (sym c.if-not-is_entry.true ∙ c.is_entry.ensures))
 
 pub is_entry-requires-in-loop-i : goal.is_entry-requires-in-loop-i
 is_entry-requires-in-loop-i c = tt
 
 pub returns-then-not-is_entry-2 : goal.returns-then-not-is_entry-2
-returns-then-not-is_entry-2 c = rw of_below (fails _ _ _ (omega arith) (sym (not-true _ c.if-not-is_entry-2.true-raw) ∙ c.is_entry-in-loop-i.ensures))
+returns-then-not-is_entry-2 c = rw of_below (fails _ _ _ (omega arith) (sym c.if-not-is_entry-2.true ∙ c.is_entry-in-loop-i.ensures))
 
 pub is_entry-requires-in-loop-i-2 : goal.is_entry-requires-in-loop-i-2
 is_entry-requires-in-loop-i-2 c = tt
 
 pub returns-then-not-is_entry-3 : goal.returns-then-not-is_entry-3
-returns-then-not-is_entry-3 c = rw of_below (fails _ _ _ (omega arith) (sym (not-true _ c.if-not-is_entry-3.true-raw) ∙ c.is_entry-in-loop-i-2.ensures))
+returns-then-not-is_entry-3 c = rw of_below (fails _ _ _ (omega arith) (sym c.if-not-is_entry-3.true ∙ c.is_entry-in-loop-i-2.ensures))
 
 pub is_entry-requires-in-loop-i-3 : goal.is_entry-requires-in-loop-i-3
 is_entry-requires-in-loop-i-3 c = tt
 
 pub returns-then-not-is_entry-4 : goal.returns-then-not-is_entry-4
-returns-then-not-is_entry-4 c = rw of_below (fails _ _ _ (omega arith) (sym (not-true _ c.if-not-is_entry-4.true-raw) ∙ c.is_entry-in-loop-i-3.ensures))
+returns-then-not-is_entry-4 c = rw of_below (fails _ _ _ (omega arith) (sym c.if-not-is_entry-4.true ∙ c.is_entry-in-loop-i-3.ensures))
 
 pub loop-i-preserved : goal.loop-i-preserved
 loop-i-preserved c =
     let at = c.loop-i in (
       omega arith,
       four-more at.i _ at.invariant.1
-          (sym (not-false _ c.if-not-is_entry.false-raw) ∙ c.is_entry.ensures)
-          (sym (not-false _ c.if-not-is_entry-2.false-raw) ∙ c.is_entry-in-loop-i.ensures)
-          (sym (not-false _ c.if-not-is_entry-3.false-raw) ∙ c.is_entry-in-loop-i-2.ensures)
-          (sym (not-false _ c.if-not-is_entry-4.false-raw) ∙ c.is_entry-in-loop-i-3.ensures),
+          (sym c.if-not-is_entry.false ∙ c.is_entry.ensures)
+          (sym c.if-not-is_entry-2.false ∙ c.is_entry-in-loop-i.ensures)
+          (sym c.if-not-is_entry-3.false ∙ c.is_entry-in-loop-i-2.ensures)
+          (sym c.if-not-is_entry-4.false ∙ c.is_entry-in-loop-i-3.ensures),
     )
 
 pub rest_entries-requires : goal.rest_entries-requires

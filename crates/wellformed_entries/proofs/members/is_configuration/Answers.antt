@@ -31,9 +31,9 @@ returns-then-orderer-gt15 c = simp (le-ltb _ _ c.if-orderer-gt15.true, and-false
 
 pub returns-then-not-has : goal.returns-then-not-has
 unfolding is_configuration
-returns-then-not-has c = simp (sym c.has.ensures ∙ not-true _ c.if-not-has.true-raw, and-false)
+returns-then-not-has c = simp (sym c.has.ensures ∙ c.if-not-has.true, and-false)
 
 pub returns : goal.returns
 returns c =
     ap (λ (n : ℕ). ltb n 5) c.size.ensures
-    ∙ counted _ _ c.if-members-gt65535.false c.if-orderer-gt15.false (sym c.has.ensures ∙ not-false _ c.if-not-has.false-raw)
+    ∙ counted _ _ c.if-members-gt65535.false c.if-orderer-gt15.false (sym c.has.ensures ∙ c.if-not-has.false)

@@ -22,13 +22,13 @@ is_named-requires c = (omega arith, omega arith)
 pub returns-then-not-is_named : goal.returns-then-not-is_named
 returns-then-not-is_named c =
     let at = c.loop-k in
-    fails 4 at.k _ (omega arith) (sym (not-true _ c.if-not-is_named.true-raw) ∙ c.is_named.ensures)
+    fails 4 at.k _ (omega arith) (sym c.if-not-is_named.true ∙ c.is_named.ensures)
     ∙ first_of_four _ _ c.requires.1
 
 pub loop-k-preserved : goal.loop-k-preserved
 loop-k-preserved c =
     let at = c.loop-k in
-    (omega arith, more at.k _ at.invariant.1 (sym (not-false _ c.if-not-is_named.false-raw) ∙ c.is_named.ensures))
+    (omega arith, more at.k _ at.invariant.1 (sym c.if-not-is_named.false ∙ c.is_named.ensures))
 
 pub returns : goal.returns
 returns c =

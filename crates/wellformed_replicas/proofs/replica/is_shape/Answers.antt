@@ -27,7 +27,7 @@ pub returns-then-len-stable : goal.returns-then-len-stable
 returns-then-len-stable c = not_passed _ (λ e. omega (arith, (shaped _ _ e).stable_most))
 
 pub returns-then-not-may_wait : goal.returns-then-not-may_wait
-returns-then-not-may_wait c = not_passed _ (λ e. false≢true (sym (not-true _ c.if-not-may_wait.true-raw) ∙ c.may_wait.ensures ∙ waits_test _ _ _ (shaped _ _ e).waits))
+returns-then-not-may_wait c = not_passed _ (λ e. false≢true (sym c.if-not-may_wait.true ∙ c.may_wait.ensures ∙ waits_test _ _ _ (shaped _ _ e).waits))
 
 pub returns-then-len-eq0 : goal.returns-then-len-eq0
 returns-then-len-eq0 c =
@@ -41,14 +41,14 @@ returns-then-len-eq0 c =
       mode_most = omega arith;
       few = omega arith;
       stable_most = omega arith;
-      waits = test_waits _ _ _ (sym c.may_wait.ensures ∙ not-false _ c.if-not-may_wait.false-raw);
+      waits = test_waits _ _ _ (sym c.may_wait.ensures ∙ c.if-not-may_wait.false);
       reserved = t.0;
       rest = t.1;
     })
     (λ s. (both _ _).1 (s.reserved, s.rest))
 
 pub returns-then-not-all_zero : goal.returns-then-not-all_zero
-returns-then-not-all_zero c = not_passed _ (λ e. false≢true (sym (not-true _ c.if-not-all_zero.true-raw) ∙ c.all_zero-2.ensures ∙ (shaped _ _ e).reserved))
+returns-then-not-all_zero c = not_passed _ (λ e. false≢true (sym c.if-not-all_zero.true ∙ c.all_zero-2.ensures ∙ (shaped _ _ e).reserved))
 
 pub returns : goal.returns
 returns c =
@@ -60,8 +60,8 @@ returns c =
       mode_most = omega arith;
       few = omega arith;
       stable_most = omega arith;
-      waits = test_waits _ _ _ (sym c.may_wait.ensures ∙ not-false _ c.if-not-may_wait.false-raw);
-      reserved = sym c.all_zero-2.ensures ∙ not-false _ c.if-not-all_zero.false-raw;
+      waits = test_waits _ _ _ (sym c.may_wait.ensures ∙ c.if-not-may_wait.false);
+      reserved = sym c.all_zero-2.ensures ∙ c.if-not-all_zero.false;
       rest = e;
     })
     (λ s. s.rest)
