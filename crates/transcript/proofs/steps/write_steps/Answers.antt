@@ -1,0 +1,74 @@
+-- Answers of `write_steps`.
+use Prim.Native.Nat.{◌-◌}
+use native.Mathlib.Omega.{arith}
+use mathlib.Core.Path.{◌≡◌, sym, ◌∙◌}
+use mathlib.Core.Logic.{⊎_elim}
+use Rattle.model.specs.Log.{read_at}
+use Rattle.model.specs.Transcript.{program_budget}
+use Rattle.replay.proofs.Running.{counted_still}
+use Rattle.replay.proofs.Rest.{reads_end, reads_damage, reads_all, reads_part}
+use Rattle.transcript.proofs.RunLines.{Printing, print_start, print_room, print_rejected, print_accepted, print_stops}
+use borrow.Author.Rules.{rules}
+use Rattle.transcript.proofs.steps.write_steps.Goals as goal
+
+pub loop-tried-init : goal.loop-tried-init
+loop-tried-init c = print_start _ _ _ c.requires
+
+pub reading-reading-requires : goal.reading-reading-requires
+reading-reading-requires c = sym c.is_short.ensures ∙ c.if-is_short.true
+
+pub reading-requires : goal.reading-requires
+reading-requires c = sym c.is_long_add.ensures ∙ c.if-is_long_add.true
+
+pub step_inside-answer-requires : goal.step_inside-answer-requires
+step_inside-answer-requires c = (c.loop-tried.invariant.running.formed, counted_still c.loop-tried.invariant.running c.shard_count-shards.ensures)
+
+pub overflow_add-rejected : goal.overflow_add-rejected
+overflow_add-rejected c = record { fits = omega (arith, c.loop-tried.invariant.running.rest.fewer) }
+
+pub write_line-end-requires : goal.write_line-end-requires
+write_line-end-requires c =
+    let read_is : c.if-is_short.reading ≡ read_at c.args.log.now c.loop-tried.at = ⊎_elim (λ d. d.2 ∙ d.1.ensures.1.1.1) (⊎_elim (λ d. d.4 ∙ d.3.ensures.1.1.1) (λ d. d.4 ∙ d.3.ensures.1.1.1)) c.if-is_short.branch in
+    let e = sym (read_is) ∙ c.in-Step.is in
+    print_room c.loop-tried.invariant c.in-Step.step c.in-Step.next c.loop-tried-test.true e _
+    c.step_inside-answer.ensures.value
+
+pub loop-tried-preserved : goal.loop-tried-preserved
+loop-tried-preserved c =
+    let read_is : c.if-is_short.reading ≡ read_at c.args.log.now c.loop-tried.at = ⊎_elim (λ d. d.2 ∙ d.1.ensures.1.1.1) (⊎_elim (λ d. d.4 ∙ d.3.ensures.1.1.1) (λ d. d.4 ∙ d.3.ensures.1.1.1)) c.if-is_short.branch in
+    let i = c.loop-tried.invariant in
+    let h = c.loop-tried-test.true in
+    let e = sym (read_is) ∙ c.in-Step.is in
+    ⊎_elim (λ d. print_rejected i c.in-Step.step c.in-Step.next h e _ (c.step_inside-answer.ensures.value, c.step_inside-answer.ensures.state_after) (c.write_line-end.ensures.value, c.write_line-end.ensures.out_after) d.0.taken (omega (arith, d.1)))
+    (λ d. print_accepted i c.in-Step.step c.in-Step.next h e _ (c.step_inside-answer.ensures.value, c.step_inside-answer.ensures.state_after) (c.write_line-end.ensures.value, c.write_line-end.ensures.out_after) d.0.left (omega (arith, d.1)))
+    c.if-answer-ne0.branch
+
+pub returns-in-End : goal.returns-in-End
+returns-in-End c =
+    let read_is : c.if-is_short.reading ≡ read_at c.args.log.now c.loop-tried.at = ⊎_elim (λ d. d.2 ∙ d.1.ensures.1.1.1) (⊎_elim (λ d. d.4 ∙ d.3.ensures.1.1.1) (λ d. d.4 ∙ d.3.ensures.1.1.1)) c.if-is_short.branch in
+    let e = sym (read_is) ∙ c.in-End.is in
+    let t = print_stops c.loop-tried.invariant c.stopped.ensures
+    (reads_end c.args.log.now program_budget c.loop-tried.at c.loop-tried.tried c.loop-tried-test.true e) in
+    record { value = t.0; state_after = t.1.0; out_after = t.1.1 }
+
+pub returns-in-Rejected : goal.returns-in-Rejected
+returns-in-Rejected c =
+    let read_is : c.if-is_short.reading ≡ read_at c.args.log.now c.loop-tried.at = ⊎_elim (λ d. d.2 ∙ d.1.ensures.1.1.1) (⊎_elim (λ d. d.4 ∙ d.3.ensures.1.1.1) (λ d. d.4 ∙ d.3.ensures.1.1.1)) c.if-is_short.branch in
+    let e = sym (read_is) ∙ c.in-Rejected.is in
+    let t = print_stops c.loop-tried.invariant c.stopped-in-Rejected.ensures
+    (reads_damage c.args.log.now program_budget c.loop-tried.at c.loop-tried.tried c.in-Rejected.r c.loop-tried-test.true e) in
+    record { value = t.0; state_after = t.1.0; out_after = t.1.1 }
+
+pub returns-then-log-at : goal.returns-then-log-at
+returns-then-log-at c =
+    let t = print_stops c.loop-tried.invariant c.stopped-then-log-at.ensures
+    (reads_all c.args.log.now program_budget c.loop-tried.at c.loop-tried.tried c.loop-tried-test.false
+    (omega (arith, c.if-log-at.true))) in
+    record { value = t.0; state_after = t.1.0; out_after = t.1.1 }
+
+pub returns : goal.returns
+returns c =
+    let t = print_stops c.loop-tried.invariant c.stopped-2.ensures
+    (reads_part c.args.log.now program_budget c.loop-tried.at c.loop-tried.tried c.loop-tried-test.false
+    (omega (arith, c.if-log-at.false))) in
+    record { value = t.0; state_after = t.1.0; out_after = t.1.1 }
