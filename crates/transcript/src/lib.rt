@@ -1,6 +1,7 @@
 // The program's whole text for a log, written into a borrowed output. What it says is in `model`: `Transcript`.
 
 #![tactic(auto)]
+
 ghost use Rattle.std.specs.Prelude.{◌≡◌, ◌≤◌, length, take};
 ghost use Rattle.model.specs.Transcript.{transcript};
 ghost use Rattle.model.specs.Results.{writing_number, writing_count};

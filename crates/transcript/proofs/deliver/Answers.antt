@@ -1,6 +1,4 @@
 -- `transcript::deliver` meets its contract.
-use lib.ListN.{take}
-use Rattle.decimal_text.proofs.ByteStores.{sets_kept}
 use Rattle.transcript.proofs.Delivery.{long, too_short_lem, room, delivered}
 use mathlib.Core.Path.{sym}
 use Rattle.transcript.proofs.deliver.Goals as goal

@@ -1,15 +1,13 @@
 -- Answers of `write_steps`.
-use Prim.Native.Nat.{◌-◌}
 use native.Mathlib.Omega.{arith}
 use mathlib.Core.Path.{◌≡◌, sym, ◌∙◌}
-use mathlib.Core.Logic.{⊎_elim}
 use Rattle.model.specs.Log.{read_at}
 use Rattle.model.specs.Transcript.{program_budget}
 use Rattle.replay.proofs.Running.{counted_still}
 use Rattle.replay.proofs.Rest.{reads_end, reads_damage, reads_all, reads_part}
-use Rattle.transcript.proofs.RunLines.{Printing, print_start, print_room, print_rejected, print_accepted, print_stops}
-use borrow.Author.Rules.{rules}
+use Rattle.transcript.proofs.RunLines.{print_start, print_room, print_rejected, print_accepted, print_stops}
 use Rattle.transcript.proofs.steps.write_steps.Goals as goal
+use Rattle.transcript.proofs.steps.write_steps.Goals.{then-is_short, else-is_short+then-is_long_add, else-is_short+else-is_long_add, then-answer-ne0, else-answer-ne0}
 
 pub loop-tried-init : goal.loop-tried-init
 loop-tried-init c = print_start _ _ _ c.requires
@@ -28,24 +26,44 @@ overflow_add-rejected c = record { fits = omega (arith, c.loop-tried.invariant.r
 
 pub write_line-end-requires : goal.write_line-end-requires
 write_line-end-requires c =
-    let read_is : c.if-is_short.reading ≡ read_at c.args.log.now c.loop-tried.at = ⊎_elim (λ d. d.2 ∙ d.1.ensures.1.1.1) (⊎_elim (λ d. d.4 ∙ d.3.ensures.1.1.1) (λ d. d.4 ∙ d.3.ensures.1.1.1)) c.if-is_short.branch in
+    let read_is : c.if-is_short.reading ≡ read_at c.args.log.now c.loop-tried.at =
+    elim c.if-is_short.branch [
+      | then-is_short w ↦ w.reading-is ∙ w.reading-reading.ensures.value
+      | else-is_short+then-is_long_add w ↦ w.reading-is ∙ w.reading.ensures.value
+      | else-is_short+else-is_long_add w ↦ w.reading-is ∙ w.read_step.ensures.value
+    ] in
     let e = sym (read_is) ∙ c.in-Step.is in
     print_room c.loop-tried.invariant c.in-Step.step c.in-Step.next c.loop-tried-test.true e _
     c.step_inside-answer.ensures.value
 
 pub loop-tried-preserved : goal.loop-tried-preserved
 loop-tried-preserved c =
-    let read_is : c.if-is_short.reading ≡ read_at c.args.log.now c.loop-tried.at = ⊎_elim (λ d. d.2 ∙ d.1.ensures.1.1.1) (⊎_elim (λ d. d.4 ∙ d.3.ensures.1.1.1) (λ d. d.4 ∙ d.3.ensures.1.1.1)) c.if-is_short.branch in
+    let read_is : c.if-is_short.reading ≡ read_at c.args.log.now c.loop-tried.at =
+    elim c.if-is_short.branch [
+      | then-is_short w ↦ w.reading-is ∙ w.reading-reading.ensures.value
+      | else-is_short+then-is_long_add w ↦ w.reading-is ∙ w.reading.ensures.value
+      | else-is_short+else-is_long_add w ↦ w.reading-is ∙ w.read_step.ensures.value
+    ] in
     let i = c.loop-tried.invariant in
     let h = c.loop-tried-test.true in
     let e = sym (read_is) ∙ c.in-Step.is in
-    ⊎_elim (λ d. print_rejected i c.in-Step.step c.in-Step.next h e _ (c.step_inside-answer.ensures.value, c.step_inside-answer.ensures.state_after) (c.write_line-end.ensures.value, c.write_line-end.ensures.out_after) d.0.taken (omega (arith, d.1)))
-    (λ d. print_accepted i c.in-Step.step c.in-Step.next h e _ (c.step_inside-answer.ensures.value, c.step_inside-answer.ensures.state_after) (c.write_line-end.ensures.value, c.write_line-end.ensures.out_after) d.0.left (omega (arith, d.1)))
-    c.if-answer-ne0.branch
+    let a = c.step_inside-answer.ensures in
+    let l = c.write_line-end.ensures in
+    elim c.if-answer-ne0.branch [
+      | then-answer-ne0 w ↦
+          print_rejected i c.in-Step.step c.in-Step.next h e _ (a.value, a.state_after) (l.value, l.out_after) w.if-answer-ne0.true (omega (arith, w.rejected-is))
+      | else-answer-ne0 w ↦
+          print_accepted i c.in-Step.step c.in-Step.next h e _ (a.value, a.state_after) (l.value, l.out_after) w.if-answer-ne0.false (omega (arith, w.rejected-is))
+    ]
 
 pub returns-in-End : goal.returns-in-End
 returns-in-End c =
-    let read_is : c.if-is_short.reading ≡ read_at c.args.log.now c.loop-tried.at = ⊎_elim (λ d. d.2 ∙ d.1.ensures.1.1.1) (⊎_elim (λ d. d.4 ∙ d.3.ensures.1.1.1) (λ d. d.4 ∙ d.3.ensures.1.1.1)) c.if-is_short.branch in
+    let read_is : c.if-is_short.reading ≡ read_at c.args.log.now c.loop-tried.at =
+    elim c.if-is_short.branch [
+      | then-is_short w ↦ w.reading-is ∙ w.reading-reading.ensures.value
+      | else-is_short+then-is_long_add w ↦ w.reading-is ∙ w.reading.ensures.value
+      | else-is_short+else-is_long_add w ↦ w.reading-is ∙ w.read_step.ensures.value
+    ] in
     let e = sym (read_is) ∙ c.in-End.is in
     let t = print_stops c.loop-tried.invariant c.stopped.ensures
     (reads_end c.args.log.now program_budget c.loop-tried.at c.loop-tried.tried c.loop-tried-test.true e) in
@@ -53,7 +71,12 @@ returns-in-End c =
 
 pub returns-in-Rejected : goal.returns-in-Rejected
 returns-in-Rejected c =
-    let read_is : c.if-is_short.reading ≡ read_at c.args.log.now c.loop-tried.at = ⊎_elim (λ d. d.2 ∙ d.1.ensures.1.1.1) (⊎_elim (λ d. d.4 ∙ d.3.ensures.1.1.1) (λ d. d.4 ∙ d.3.ensures.1.1.1)) c.if-is_short.branch in
+    let read_is : c.if-is_short.reading ≡ read_at c.args.log.now c.loop-tried.at =
+    elim c.if-is_short.branch [
+      | then-is_short w ↦ w.reading-is ∙ w.reading-reading.ensures.value
+      | else-is_short+then-is_long_add w ↦ w.reading-is ∙ w.reading.ensures.value
+      | else-is_short+else-is_long_add w ↦ w.reading-is ∙ w.read_step.ensures.value
+    ] in
     let e = sym (read_is) ∙ c.in-Rejected.is in
     let t = print_stops c.loop-tried.invariant c.stopped-in-Rejected.ensures
     (reads_damage c.args.log.now program_budget c.loop-tried.at c.loop-tried.tried c.in-Rejected.r c.loop-tried-test.true e) in

@@ -1,14 +1,7 @@
--- `transcript::steps::write_steps` meets its contract.
+-- `transcript::steps::write_steps` meets its contract: the run at each turn, and what was written of its lines.
 use Prim.Native.Nat.{◌-◌}
-use native.Mathlib.Omega.{arith}
-use mathlib.Core.Path.{◌≡◌, sym, ◌∙◌}
-use mathlib.Core.Logic.{⊎_elim}
-use Rattle.model.specs.Log.{read_at}
 use Rattle.model.specs.Transcript.{program_budget}
-use Rattle.replay.proofs.Running.{counted_still}
-use Rattle.replay.proofs.Rest.{reads_end, reads_damage, reads_all, reads_part}
-use Rattle.transcript.proofs.RunLines.{Printing, print_start, print_room, print_rejected, print_accepted, print_stops}
-use borrow.Author.Rules.{rules}
+use Rattle.transcript.proofs.RunLines.{Printing}
 use Rattle.transcript.proofs.steps.write_steps.Given as goal
 
 abbrev pub invariant-loop-tried : goal.invariant-loop-tried
