@@ -2,6 +2,5 @@
 pub mod TallyCounts
 pub mod Tallying
 pub mod TallyLaws
-pub mod ThreeFacts
 pub mod TurnExits
 pub mod Turning

@@ -9,7 +9,7 @@ unfolding turn_tried
 returns-then-answer-eq0 c = rw (c.on.ensures, c.stopped.ensures, eq-eqb _ _ c.if-answer-eq0.true)
 
 pub count_of-count-requires : goal.count_of-count-requires
-count_of-count-requires c = c.requires.turned-back c.if-answer-eq0.false
+count_of-count-requires c = c.requires.turned_back c.if-answer-eq0.false
 
 pub returns : goal.returns
 unfolding turn_tried
