@@ -1,6 +1,7 @@
 // Words of two lists compared, eight a turn.
 
 #![tactic(auto)]
+
 ghost use Rattle.std.specs.Prelude.{◌≡◌, ◌+◌, ◌≤◌, length};
 ghost use Rattle.alike_words.specs.EightAtOnce.{words_alike, agreeing};
 

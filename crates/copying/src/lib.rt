@@ -1,6 +1,7 @@
 // The words of a replica, copied to another one's place.
 
 #![tactic(auto)]
+
 ghost use Rattle.std.specs.Prelude.{◌≡◌, length};
 ghost use Rattle.types.specs.ReplicaPlace.{part_words};
 ghost use Rattle.model.specs.Layout.{replica_at, put_replica};

@@ -1,6 +1,7 @@
 // Entries looked for in a history: an entry itself, or an issue for a shard and an index.
 
 #![tactic(auto)]
+
 ghost use Rattle.std.specs.Prelude.{◌≡◌, true, ◌≤◌, ◌<◌, length, drop};
 ghost use Rattle.model.specs.Tests.{contains};
 ghost use Rattle.model.specs.Entries.{is_issue, issue_shard, issue_index};

@@ -1,6 +1,7 @@
 // The fields of an issue's word. What they mean, and which words are proper entries, is in `model`: `Entries`.
 
 #![tactic(auto)]
+
 ghost use Rattle.std.specs.Prelude.{◌≡◌};
 ghost use Rattle.model.specs.Entries.{is_issue, issue_index, issue_shard, issue_orderer, issue_members};
 

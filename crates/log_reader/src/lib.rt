@@ -1,6 +1,7 @@
 // Steps from bytes: a kind, then the numbers that it uses, each read at its position. What is read is in `model`: `Numbers` and `Log`.
 
 #![tactic(auto)]
+
 ghost use Rattle.std.specs.Prelude.{◌≡◌, [], ◌∷◌, suc, drop};
 ghost use Rattle.model.specs.Numbers.{read_numbers};
 ghost use Rattle.model.specs.Log.{read_at, read_step};

@@ -1,6 +1,7 @@
 // Looking into a well-formed state: configurations by value, and where a host's replica is. No entry point: callers have tested the state.
 
 #![tactic(auto)]
+
 ghost use Rattle.std.specs.Prelude.{◌≡◌, ◌+◌};
 ghost use Rattle.model.specs.Layout.{is_installed};
 ghost use Rattle.model.specs.Configuration.{configuration};

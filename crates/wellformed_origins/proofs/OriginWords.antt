@@ -13,7 +13,7 @@ use Rattle.types.specs.declared.configuration.Configuration.{Configuration}
 use Rattle.model.specs.Tests.{all_below}
 use Rattle.types.specs.Members.{replica_number}
 use Rattle.model.specs.Replicas.{is_pending}
-use Rattle.model.specs.Layout.{place, members, orderer, replica_at}
+use Rattle.model.specs.Layout.{place, members, replica_at}
 use Rattle.types.specs.ReplicaPlace.{replica_place}
 use Rattle.model.specs.Inherit.{source}
 use Rattle.model.specs.Origins.{names_member, names_source, is_origin_of}

@@ -1,10 +1,7 @@
 -- Answers of `agreeing`.
-use Prim.Native.Nat.{◌-◌}
 use native.Mathlib.Omega.{arith}
 use mathlib.Core.Path.{sym, ◌∙◌}
-use borrow.Author.Tests.{not-true, not-false}
-use borrow.Author.Rules.{rules}
-use Rattle.alike_words.proofs.EightAtOnce.{Told, no_turn, first_turn, stops, goes_on_lem, ends, ends_before}
+use Rattle.alike_words.proofs.EightAtOnce.{no_turn, first_turn, stops, goes_on_lem, ends, ends_before}
 use Rattle.alike_words.proofs.agreeing.Goals as goal
 
 pub returns-then-n-lt8 : goal.returns-then-n-lt8

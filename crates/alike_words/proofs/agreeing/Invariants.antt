@@ -1,10 +1,6 @@
 -- `alike_words::agreeing` meets its contract. The loop's invariant: what is told from p on is told of all.
 use Prim.Native.Nat.{◌-◌}
-use native.Mathlib.Omega.{arith}
-use mathlib.Core.Path.{sym, ◌∙◌}
-use borrow.Author.Tests.{not-true, not-false}
-use borrow.Author.Rules.{rules}
-use Rattle.alike_words.proofs.EightAtOnce.{Told, no_turn, first_turn, stops, goes_on_lem, ends, ends_before}
+use Rattle.alike_words.proofs.EightAtOnce.{Told}
 use Rattle.alike_words.proofs.agreeing.Given as goal
 
 abbrev pub invariant-loop-p : goal.invariant-loop-p

@@ -1,5 +1,4 @@
 -- `alike_words::eight_alike` meets its contract.
-use borrow.Author.Rules.{rules}
 use Rattle.alike_words.proofs.EightAtOnce.{eight_joined}
 use Rattle.alike_words.proofs.eight_alike.Goals as goal
 

@@ -2,7 +2,6 @@
 use mathlib.Core.Path.{ap, ◌∙◌}
 use lib.ListN.{length, length-set}
 use Rattle.copying.proofs.Copies.{lent_length, put_copied}
-use borrow.Author.Rules.{rules}
 use Rattle.copying.proofs.copy_replica.Goals as goal
 
 pub copy_words-requires-2 : goal.copy_words-requires-2

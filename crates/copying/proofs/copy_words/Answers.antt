@@ -1,5 +1,5 @@
 -- Answers of `copy_words`.
-use Prim.Native.Nat.{◌≤◌, ◌<◌, ◌-◌, ℕ}
+use Prim.Native.Nat.{◌<◌, ℕ}
 use mathlib.Core.Path.{◌≡◌, sym, ◌∙◌, ap}
 use lib.ListN.{length, get_or, set, length-set, drop_of_length-le}
 use lib.Seq.{paste, paste-zero, paste-suc, take_all}

@@ -1,7 +1,6 @@
 -- `entry_search::has_entry` meets its contract.
 use mathlib.Core.Path.{◌∙◌}
 use Rattle.entry_search.proofs.Searches.{like_entry}
-use borrow.Author.Rules.{rules}
 use Rattle.entry_search.proofs.has_entry.Goals as goal
 
 pub returns : goal.returns

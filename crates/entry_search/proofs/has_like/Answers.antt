@@ -1,9 +1,8 @@
 -- Answers of `has_like`.
-use Prim.Native.Nat.{◌+◌, ◌≤◌, ◌-◌}
+use Prim.Native.Nat.{◌+◌, ◌≤◌}
 use native.Mathlib.Omega.{arith}
-use mathlib.Core.Path.{◌≡◌, refl, ◌∙◌}
-use lib.ListN.{length, drop}
-use Rattle.entry_search.specs.Searches.{has_like}
+use mathlib.Core.Path.{refl, ◌∙◌}
+use lib.ListN.{length}
 use Rattle.entry_search.proofs.Likes.{at_first, at_second, at_third, at_fourth, past_fourth}
 use borrow.Author.Rules.{rules}
 use Rattle.entry_search.proofs.has_like.Goals as goal

@@ -1,11 +1,8 @@
 -- `entry_search::has_like` meets its contract.
-use Prim.Native.Nat.{◌+◌, ◌≤◌, ◌-◌}
-use native.Mathlib.Omega.{arith}
-use mathlib.Core.Path.{◌≡◌, refl, ◌∙◌}
+use Prim.Native.Nat.{◌≤◌, ◌-◌}
+use mathlib.Core.Path.{◌≡◌}
 use lib.ListN.{length, drop}
 use Rattle.entry_search.specs.Searches.{has_like}
-use Rattle.entry_search.proofs.Likes.{at_first, at_second, at_third, at_fourth, past_fourth}
-use borrow.Author.Rules.{rules}
 use Rattle.entry_search.proofs.has_like.Given as goal
 
 abbrev pub invariant-loop-i : goal.invariant-loop-i

@@ -1,8 +1,5 @@
 -- Answers of `has_like_from`.
-use Prim.Native.Nat.{◌≤◌, ◌-◌}
-use mathlib.Core.Path.{◌≡◌, refl, ◌∙◌}
-use lib.ListN.{length, drop}
-use Rattle.entry_search.specs.Searches.{has_like}
+use mathlib.Core.Path.{refl, ◌∙◌}
 use Rattle.entry_search.proofs.Likes.{like_here, like_next, like_none}
 use borrow.Author.Rules.{rules}
 use Rattle.entry_search.proofs.has_like_from.Goals as goal

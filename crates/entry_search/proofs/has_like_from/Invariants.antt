@@ -1,10 +1,8 @@
 -- `entry_search::has_like_from` meets its contract.
 use Prim.Native.Nat.{◌≤◌, ◌-◌}
-use mathlib.Core.Path.{◌≡◌, refl, ◌∙◌}
+use mathlib.Core.Path.{◌≡◌}
 use lib.ListN.{length, drop}
 use Rattle.entry_search.specs.Searches.{has_like}
-use Rattle.entry_search.proofs.Likes.{like_here, like_next, like_none}
-use borrow.Author.Rules.{rules}
 use Rattle.entry_search.proofs.has_like_from.Given as goal
 
 abbrev pub invariant-loop-i : goal.invariant-loop-i

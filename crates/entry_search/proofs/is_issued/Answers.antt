@@ -1,7 +1,6 @@
 -- `entry_search::is_issued` meets its contract.
 use mathlib.Core.Path.{◌∙◌}
 use Rattle.entry_search.proofs.Searches.{like_issue}
-use borrow.Author.Rules.{rules}
 use Rattle.entry_search.proofs.is_issued.Goals as goal
 
 pub returns : goal.returns

@@ -1,7 +1,6 @@
 -- `log_reader::after_kind` meets its contract.
 use Rattle.types.proofs.KindRules.{rejection_told, known_told}
 use Rattle.log_reader.proofs.StepParts.{kind_rejected, kind_taken}
-use borrow.Author.Rules.{rules}
 use Rattle.log_reader.proofs.after_kind.Goals as goal
 
 pub returns-then-rules-ne0 : goal.returns-then-rules-ne0

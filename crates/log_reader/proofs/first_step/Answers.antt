@@ -1,6 +1,5 @@
 -- `log_reader::first_step` meets its contract: the end, a kind that cannot be read, or what follows the kind. Assumes nothing.
 use native.Mathlib.Omega.{arith}
-use borrow.Author.Rules.{rules}
 use Rattle.model.proofs.Results.{reads_first}
 use Rattle.log_reader.proofs.StepParts.{first_none, first_kind, first_no_kind}
 use Rattle.log_reader.proofs.first_step.Goals as goal

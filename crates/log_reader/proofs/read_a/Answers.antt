@@ -2,7 +2,6 @@
 use Prim.Native.Nat.{suc}
 use native.Mathlib.Omega.{arith}
 use mathlib.Core.List.{[]}
-use borrow.Author.Rules.{rules}
 use Rattle.types.specs.Rules.{fourth_numbers}
 use Rattle.log_reader.proofs.StepParts.{number_inside, step_more, step_rejected}
 use Rattle.log_reader.proofs.read_a.Goals as goal

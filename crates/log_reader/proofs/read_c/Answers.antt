@@ -3,7 +3,6 @@ use native.Mathlib.Omega.{arith}
 use mathlib.Core.Path.{◌≡◌}
 use mathlib.Core.List.{[], ◌∷◌}
 use borrow.Author.Tests.{le-leb, lt-leb}
-use borrow.Author.Rules.{rules}
 use Rattle.types.specs.Kinds.{kind_of, used_numbers}
 use Rattle.model.specs.Log.{step_of}
 use Rattle.types.specs.Rules.{fourth_numbers}

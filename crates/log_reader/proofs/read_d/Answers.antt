@@ -1,7 +1,6 @@
 -- `read_d` meets its contract: the last number is read. Assumes nothing.
 use native.Mathlib.Omega.{arith}
 use mathlib.Core.List.{[], ◌∷◌}
-use borrow.Author.Rules.{rules}
 use Rattle.model.specs.Log.{step_of}
 use Rattle.log_reader.proofs.StepParts.{number_inside, step_more, step_rejected, step_done}
 use Rattle.log_reader.proofs.read_d.Goals as goal

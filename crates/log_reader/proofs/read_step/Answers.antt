@@ -7,7 +7,6 @@ use lib.Seq.{take_all}
 use Rattle.model.specs.Log.{read_step, from}
 use Rattle.model.proofs.Results.{reads_at}
 use Rattle.log_reader.proofs.StepParts.{step_none, step_from, step_inside}
-use borrow.Author.Rules.{rules}
 use Rattle.log_reader.proofs.read_step.Goals as goal
 
 pub returns-then-log-at : goal.returns-then-log-at

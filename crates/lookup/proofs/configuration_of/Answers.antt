@@ -6,7 +6,6 @@ use lib.ListN.{get_or}
 use Rattle.model.specs.Layout.{shard_words, head_words, configuration_words, members, orderer, place, head_word, head_place}
 use Rattle.types.specs.ReplicaPlace.{part_words}
 use Rattle.model.specs.Configuration.{configuration}
-use borrow.Author.Rules.{rules}
 use Rattle.lookup.proofs.configuration_of.Goals as goal
 
 pub returns : goal.returns

@@ -4,12 +4,10 @@ use mathlib.Core.Path.{◌≡◌, sym, ap, ◌∙◌}
 use mathlib.Core.Bool.{Bool}
 use Rattle.types.specs.Members.{has_member}
 use Rattle.types.specs.declared.configuration.Configuration.{Configuration}
-use borrow.Author.Tests.{not-true, not-false}
 use Rattle.model.specs.Configuration.{configuration}
 use Rattle.types.specs.ReplicaPlace.{replica_place}
 use Rattle.lookup.specs.FoundReplicas.{found_of}
 use Rattle.lookup.proofs.FoundReplicas.{small_place, member_placed, start_placed}
-use borrow.Author.Rules.{rules}
 use Rattle.lookup.proofs.find.Goals as goal
 
 -- the test of membership is that of the configuration that was found

@@ -1,7 +1,6 @@
 -- `lookup::is_installed` meets its contract.
 use mathlib.Core.Path.{refl}
 use Rattle.model.specs.Layout.{is_installed, installed, head_word, head_place}
-use borrow.Author.Rules.{rules}
 use Rattle.lookup.proofs.is_installed.Goals as goal
 
 pub returns : goal.returns

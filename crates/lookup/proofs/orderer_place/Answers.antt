@@ -6,7 +6,6 @@ use Rattle.types.specs.ReplicaPlace.{replica_place}
 use Rattle.model.specs.Add.{orderer_place}
 use Rattle.lookup.proofs.FoundReplicas.{small_place}
 use Rattle.lookup.proofs.Orderers.{ordered, orderer_placed}
-use borrow.Author.Rules.{rules}
 use Rattle.lookup.proofs.orderer_place.Goals as goal
 
 pub replica-requires : goal.replica-requires

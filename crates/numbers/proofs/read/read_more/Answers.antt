@@ -1,10 +1,8 @@
 -- Answers of `read_more`.
-use Prim.Native.Nat.{◌+◌, ◌-◌}
 use native.Mathlib.Nat.{mod-lt}
 use native.Mathlib.Omega.{arith}
 use mathlib.Core.Path.{refl, ◌∙◌}
-use borrow.Author.Rules.{rules}
-use Rattle.numbers.proofs.NumberTurns.{Turn, turn_first, turn_ended, turn_full, turn_fits, turn_weight_fits, turn_last, turn_more}
+use Rattle.numbers.proofs.NumberTurns.{turn_first, turn_ended, turn_full, turn_fits, turn_weight_fits, turn_last, turn_more}
 use Rattle.numbers.proofs.read.read_more.Goals as goal
 
 pub loop-n-init : goal.loop-n-init

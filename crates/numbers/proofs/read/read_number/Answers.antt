@@ -1,7 +1,6 @@
 -- `read_number` meets its contract: no byte, one byte, or several. Assumes nothing.
 use native.Mathlib.Omega.{arith}
 use mathlib.Core.Path.{sym, ◌∙◌}
-use borrow.Author.Rules.{rules}
 use Rattle.numbers.proofs.FirstByte.{read_none, read_one, read_several}
 use Rattle.numbers.proofs.read.read_number.Goals as goal
 

@@ -1,7 +1,6 @@
 -- Answers of `write_number`.
 use native.Mathlib.Omega.{arith}
-use lib.ListN.{length-set}
-use Rattle.numbers.proofs.NumberWrites.{Written, none_written, more_room, more_written, last_count, last_written}
+use Rattle.numbers.proofs.NumberWrites.{none_written, more_room, more_written, last_count, last_written}
 use Rattle.numbers.proofs.write.write_number.Goals as goal
 
 pub loop-rest-init : goal.loop-rest-init

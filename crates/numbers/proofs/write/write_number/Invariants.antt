@@ -1,7 +1,5 @@
 -- `write_number` meets its contract. The loop's invariant is `Written`; the measure is what is left of the number. Assumes nothing.
-use native.Mathlib.Omega.{arith}
-use lib.ListN.{length-set}
-use Rattle.numbers.proofs.NumberWrites.{Written, none_written, more_room, more_written, last_count, last_written}
+use Rattle.numbers.proofs.NumberWrites.{Written}
 use Rattle.numbers.proofs.write.write_number.Given as goal
 
 abbrev pub invariant-loop-rest : goal.invariant-loop-rest

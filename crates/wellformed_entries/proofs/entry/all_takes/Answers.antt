@@ -1,8 +1,6 @@
 -- Answers of `all_takes`.
-use Rattle.std.proofs.Common.{◌≡◌, ◌+◌, ◌-◌, ◌/◌, ◌≤◌, ◌&&◌, ltb, length, get_or, refl, ◌∙◌, arith, rules}
-use lib.Bits.{bit_or}
+use Rattle.std.proofs.Common.{◌/◌, length, refl, ◌∙◌, arith, rules}
 use Rattle.model.specs.Tests.{all_below}
-use Rattle.model.specs.Entries.{is_take}
 use Rattle.model.proofs.Ranges.{reached, of_below}
 use Rattle.wellformed_entries.proofs.Takes.{takes_more, halves}
 use Rattle.wellformed_entries.proofs.entry.all_takes.Goals as goal

@@ -1,11 +1,9 @@
 -- `wellformed_entries::entry::all_takes` meets its contract. The loop's invariant: the words joined with the numbers before them are below 2 ^ 32 where
 -- each of them is a take.
-use Rattle.std.proofs.Common.{◌≡◌, ◌+◌, ◌-◌, ◌/◌, ◌≤◌, ◌&&◌, ltb, length, get_or, refl, ◌∙◌, arith, rules}
+use Rattle.std.proofs.Common.{◌≡◌, ◌+◌, ◌-◌, ◌≤◌, ◌&&◌, ltb, get_or}
 use lib.Bits.{bit_or}
 use Rattle.model.specs.Tests.{all_below}
 use Rattle.model.specs.Entries.{is_take}
-use Rattle.model.proofs.Ranges.{reached, of_below}
-use Rattle.wellformed_entries.proofs.Takes.{takes_more, halves}
 use Rattle.wellformed_entries.proofs.entry.all_takes.Given as goal
 
 abbrev pub invariant-loop-i : goal.invariant-loop-i

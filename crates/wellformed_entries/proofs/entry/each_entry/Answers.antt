@@ -1,8 +1,6 @@
 -- Answers of `each_entry`.
-use Rattle.std.proofs.Common.{◌≡◌, ℕ, ◌+◌, ◌-◌, ◌≤◌, Bool, true, length, get_or, sym, refl, ◌∙◌, arith}
-use borrow.Author.Tests.{not-true, not-false}
+use Rattle.std.proofs.Common.{◌≡◌, ℕ, ◌+◌, Bool, true, sym, refl, ◌∙◌, arith}
 use Rattle.model.specs.Tests.{all_below}
-use Rattle.model.specs.Entries.{is_entry}
 use Rattle.model.proofs.Ranges.{more, fails, reached, of_below}
 use Rattle.wellformed_entries.proofs.entry.each_entry.Goals as goal
 

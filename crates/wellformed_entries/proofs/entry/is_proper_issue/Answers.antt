@@ -1,5 +1,5 @@
 -- `wellformed_entries::entry::is_proper_issue` meets its contract.
-use Rattle.std.proofs.Common.{sym, rules, le-ltb, lt-ltb}
+use Rattle.std.proofs.Common.{sym, le-ltb, lt-ltb}
 use Rattle.model.specs.Entries.{is_proper_issue}
 use Rattle.wellformed_entries.proofs.Marks.{mark_low, mark_high, mark_between}
 use Rattle.wellformed_entries.proofs.entry.is_proper_issue.Goals as goal

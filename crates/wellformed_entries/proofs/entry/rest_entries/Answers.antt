@@ -1,8 +1,5 @@
 -- Answers of `rest_entries`.
-use Rattle.std.proofs.Common.{◌≡◌, ◌-◌, ◌≤◌, true, length, get_or, sym, ◌∙◌, arith}
-use borrow.Author.Tests.{not-true, not-false}
-use Rattle.model.specs.Tests.{all_below}
-use Rattle.model.specs.Entries.{is_entry}
+use Rattle.std.proofs.Common.{sym, ◌∙◌, arith}
 use Rattle.model.proofs.Ranges.{more, fails, reached, of_below}
 use Rattle.wellformed_entries.proofs.entry.rest_entries.Goals as goal
 

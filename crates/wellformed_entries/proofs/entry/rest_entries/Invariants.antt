@@ -1,9 +1,7 @@
 -- `wellformed_entries::entry::rest_entries` meets its contract. The loop's invariant: the entries before i are proper.
-use Rattle.std.proofs.Common.{◌≡◌, ◌-◌, ◌≤◌, true, length, get_or, sym, ◌∙◌, arith}
-use borrow.Author.Tests.{not-true, not-false}
+use Rattle.std.proofs.Common.{◌≡◌, ◌-◌, ◌≤◌, true, length, get_or}
 use Rattle.model.specs.Tests.{all_below}
 use Rattle.model.specs.Entries.{is_entry}
-use Rattle.model.proofs.Ranges.{more, fails, reached, of_below}
 use Rattle.wellformed_entries.proofs.entry.rest_entries.Given as goal
 
 abbrev pub invariant-loop-i : goal.invariant-loop-i

@@ -1,9 +1,8 @@
 -- `wellformed_entries::members::is_configuration` meets its contract.
-use Rattle.std.proofs.Common.{◌≡◌, ℕ, ◌≤◌, true, ltb, sym, ap, ◌∙◌, arith, rules, le-ltb, lt-ltb, le-leb}
+use Rattle.std.proofs.Common.{◌≡◌, ℕ, ◌≤◌, true, ltb, sym, ap, ◌∙◌, arith, le-ltb, lt-ltb, le-leb}
 use mathlib.Core.Bool.{and-true, and-false}
 use lib.Dec.{leb-suc-suc}
 use lib.Count.{ones}
-use borrow.Author.Tests.{not-true, not-false}
 use Rattle.types.specs.Members.{is_configuration, is_member_set, is_host, has_member}
 use Rattle.model.proofs.Members.{number_below}
 use Rattle.wellformed_entries.proofs.members.is_configuration.Goals as goal

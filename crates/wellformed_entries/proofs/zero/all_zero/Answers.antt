@@ -1,5 +1,5 @@
 -- Answers of `all_zero`.
-use Rattle.std.proofs.Common.{◌≡◌, ◌-◌, ◌≤◌, eqb, length, get_or, refl, arith}
+use Rattle.std.proofs.Common.{get_or, refl, arith}
 use Rattle.model.specs.Tests.{all_below}
 use Rattle.model.proofs.Ranges.{reached}
 use Rattle.wellformed_entries.proofs.Zeros.{joined_more}

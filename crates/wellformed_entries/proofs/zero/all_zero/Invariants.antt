@@ -1,8 +1,6 @@
 -- `wellformed_entries::zero::all_zero` meets its contract. The loop's invariant: the words joined are 0 where each of them is.
-use Rattle.std.proofs.Common.{◌≡◌, ◌-◌, ◌≤◌, eqb, length, get_or, refl, arith}
+use Rattle.std.proofs.Common.{◌≡◌, ◌-◌, ◌≤◌, eqb, length, get_or}
 use Rattle.model.specs.Tests.{all_below}
-use Rattle.model.proofs.Ranges.{reached}
-use Rattle.wellformed_entries.proofs.Zeros.{joined_more}
 use Rattle.wellformed_entries.proofs.zero.all_zero.Given as goal
 
 abbrev pub invariant-loop-i : goal.invariant-loop-i

@@ -1,15 +1,11 @@
 -- `wellformed_origins::origin::all_named` meets its contract. The loop's invariant: the replicas before k pass.
 use Prim.Native.Nat.{◌+◌, ◌-◌, ◌*◌, ◌≤◌}
-use native.Mathlib.Omega.{arith}
-use mathlib.Core.Path.{◌≡◌, refl, sym, ◌∙◌}
+use mathlib.Core.Path.{◌≡◌}
 use mathlib.Core.Bool.{true, not, ◌||◌}
 use lib.Dec.{ltb}
-use borrow.Author.Tests.{not-true, not-false}
 use Rattle.model.specs.Tests.{all_below}
 use Rattle.model.specs.Layout.{replica_at}
 use Rattle.model.specs.Origins.{names_member}
-use Rattle.model.proofs.Ranges.{more, fails, reached}
-use Rattle.wellformed_origins.proofs.OriginWords.{first_of_four}
 use Rattle.wellformed_origins.proofs.origin.all_named.Given as goal
 
 abbrev pub invariant-loop-k : goal.invariant-loop-k

@@ -3,7 +3,6 @@ use native.Mathlib.Omega.{arith}
 use mathlib.Core.Path.{sym, ◌∙◌}
 use Rattle.model.specs.Layout.{place}
 use Rattle.wellformed_origins.proofs.OriginWords.{all_decided}
-use borrow.Author.Rules.{rules}
 use Rattle.wellformed_origins.proofs.origin.all_origins.Goals as goal
 
 pub returns-then-none_pending-2 : goal.returns-then-none_pending-2

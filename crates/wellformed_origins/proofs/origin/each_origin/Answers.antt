@@ -1,12 +1,7 @@
 -- Answers of `each_origin`.
-use Prim.Native.Nat.{◌-◌, ◌≤◌}
 use native.Mathlib.Omega.{arith}
-use mathlib.Core.Path.{◌≡◌, refl, sym, ◌∙◌}
-use mathlib.Core.Bool.{true}
-use borrow.Author.Tests.{not-true, not-false}
+use mathlib.Core.Path.{refl, sym, ◌∙◌}
 use Rattle.model.specs.Tests.{all_below}
-use Rattle.model.specs.Layout.{place, replica_at}
-use Rattle.model.specs.Origins.{is_origin_of}
 use Rattle.model.proofs.Ranges.{more, fails, reached}
 use Rattle.wellformed_origins.proofs.origin.each_origin.Goals as goal
 

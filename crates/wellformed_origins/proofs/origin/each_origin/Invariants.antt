@@ -1,13 +1,10 @@
 -- `wellformed_origins::origin::each_origin` meets its contract. The loop's invariant: the replicas before k have proper origins.
 use Prim.Native.Nat.{◌-◌, ◌≤◌}
-use native.Mathlib.Omega.{arith}
-use mathlib.Core.Path.{◌≡◌, refl, sym, ◌∙◌}
+use mathlib.Core.Path.{◌≡◌}
 use mathlib.Core.Bool.{true}
-use borrow.Author.Tests.{not-true, not-false}
 use Rattle.model.specs.Tests.{all_below}
 use Rattle.model.specs.Layout.{place, replica_at}
 use Rattle.model.specs.Origins.{is_origin_of}
-use Rattle.model.proofs.Ranges.{more, fails, reached}
 use Rattle.wellformed_origins.proofs.origin.each_origin.Given as goal
 
 abbrev pub invariant-loop-k : goal.invariant-loop-k

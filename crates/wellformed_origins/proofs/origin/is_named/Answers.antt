@@ -1,10 +1,8 @@
 -- `wellformed_origins::origin::is_named` meets its contract.
-use native.Mathlib.Omega.{arith}
 use mathlib.Core.Path.{sym, ap, ◌∙◌}
 use borrow.Author.Tests.{lt-ltb, le-ltb}
 use Rattle.model.specs.Origins.{names_member}
 use Rattle.model.proofs.Fields.{origin_word_lem}
-use borrow.Author.Rules.{rules}
 use Rattle.wellformed_origins.proofs.origin.is_named.Goals as goal
 
 pub returns-then-count-k : goal.returns-then-count-k

@@ -1,9 +1,7 @@
 -- `wellformed_origins::origin::is_origin_of` meets its contract, by the laws of an origin's words.
-use native.Mathlib.Omega.{arith}
 use mathlib.Core.Path.{◌∙◌}
 use Rattle.model.specs.Layout.{place}
 use Rattle.wellformed_origins.proofs.OriginWords.{first_origin, waiting_origin, other_origin}
-use borrow.Author.Rules.{rules}
 use Rattle.wellformed_origins.proofs.origin.is_origin_of.Goals as goal
 
 pub returns-then-j-eq0 : goal.returns-then-j-eq0

@@ -1,7 +1,6 @@
 -- `wellformed_origins::origin::names_member` meets its contract.
 use mathlib.Core.Path.{◌∙◌}
 use mathlib.Core.Bool.{and-false}
-use borrow.Author.Rules.{rules}
 use borrow.Author.Tests.{le-leb, lt-leb}
 use Rattle.model.specs.Origins.{names_member}
 use Rattle.wellformed_origins.proofs.origin.names_member.Goals as goal

@@ -1,10 +1,8 @@
 -- `wellformed_origins::origin::names_source` meets its contract, by the laws of an origin that names a member.
 use native.Mathlib.Omega.{arith}
 use mathlib.Core.Path.{sym, ◌∙◌}
-use borrow.Author.Tests.{not-true, not-false}
 use Rattle.model.proofs.Origins.{member_named}
 use Rattle.wellformed_origins.proofs.OriginWords.{names_none, source_fits, names_mode}
-use borrow.Author.Rules.{rules}
 use Rattle.wellformed_origins.proofs.origin.names_source.Goals as goal
 
 pub returns-then-not-names_member : goal.returns-then-not-names_member

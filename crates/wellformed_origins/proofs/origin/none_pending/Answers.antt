@@ -1,11 +1,7 @@
 -- Answers of `none_pending`.
-use Prim.Native.Nat.{◌+◌, ◌-◌, ◌*◌, ◌≤◌}
 use native.Mathlib.Omega.{arith}
-use mathlib.Core.Path.{◌≡◌, refl}
-use mathlib.Core.Bool.{true, not}
+use mathlib.Core.Path.{refl}
 use Rattle.model.specs.Tests.{all_below}
-use Rattle.model.specs.Replicas.{is_pending}
-use Rattle.model.specs.Layout.{replica_at}
 use Rattle.model.proofs.Ranges.{more, fails, reached}
 use Rattle.wellformed_origins.proofs.OriginWords.{is_waiting, is_running}
 use Rattle.wellformed_origins.proofs.origin.none_pending.Goals as goal

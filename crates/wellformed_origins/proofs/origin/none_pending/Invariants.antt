@@ -1,13 +1,10 @@
 -- `wellformed_origins::origin::none_pending` meets its contract. The loop's invariant: the replicas before k are not pending.
 use Prim.Native.Nat.{◌+◌, ◌-◌, ◌*◌, ◌≤◌}
-use native.Mathlib.Omega.{arith}
-use mathlib.Core.Path.{◌≡◌, refl}
+use mathlib.Core.Path.{◌≡◌}
 use mathlib.Core.Bool.{true, not}
 use Rattle.model.specs.Tests.{all_below}
 use Rattle.model.specs.Replicas.{is_pending}
 use Rattle.model.specs.Layout.{replica_at}
-use Rattle.model.proofs.Ranges.{more, fails, reached}
-use Rattle.wellformed_origins.proofs.OriginWords.{is_waiting, is_running}
 use Rattle.wellformed_origins.proofs.origin.none_pending.Given as goal
 
 abbrev pub invariant-loop-k : goal.invariant-loop-k
