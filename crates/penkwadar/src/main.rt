@@ -2,53 +2,84 @@
 // standard error; where the log cannot be read whole, nothing is printed.
 
 #![tactic(auto)]
+
 ghost use Rattle.std.specs.Prelude.{◌≤◌, length};
 
+use std::env::FillError;
+use std::io;
+use std::rt::Env;
 use types::Writing;
 
 mod input;
 mod output;
 mod piece;
 
-fn main() {
-    if 1 < os::arg_count() {
-        usage();
+fn main(rt: HostRuntime) {
+    if has_arguments(&rt) {
+        usage(&rt);
         return;
     }
     let mut log = [0u8; 16385];
-    let input = input::read_all(&mut log);
+    let input = input::read_all(&mut rt.stdin(), &mut log);
     let count = input.count;
     if input.whole {
-        show(&log[..count]);
+        show(&rt, &log[..count]);
     } else {
-        os::fail(b"penkwadar: cannot read the log");
+        fail(&rt, "penkwadar: cannot read the log", input.error);
+    }
+}
+
+// Whether the program was started with an argument, be it an empty one or one that is no text.
+fn has_arguments(rt: &impl Env) -> bool {
+    let mut first = [0u8; 1];
+    match rt.arg(1, &mut first) {
+        Ok(_) | Err(FillError::TooLong) => true,
+        Err(FillError::NotPresent) => false,
     }
 }
 
 // What any argument gets.
-fn usage() {
-    io::write_all(
-        libc::STDERR_FILENO,
-        b"usage: penkwadar < LOG\nprints what the steps of a log do; it takes no arguments\n",
+fn usage(rt: &impl Eprint) {
+    let _ = rt.eprint(
+        "usage: penkwadar < LOG\nprints what the steps of a log do; it takes no arguments\n",
     );
 }
 
 // Prints the text of a log.
-fn show(log: &[u8]) {
+fn show(rt: &(impl Print + Eprint + Alloc), log: &[u8]) {
     let mut out = [0u8; transcript::MOST];
     match transcript::transcript(log, &mut out) {
         Writing::Bytes(len) => {
-            print(&out, len);
+            print(rt, &out, len);
         }
         Writing::Rejected(_) => {}
     }
 }
 
 // Writes the first bytes of an output to standard output.
-fn print(out: &[u8], len: usize)
+fn print(rt: &(impl Print + Eprint + Alloc), out: &[u8], len: usize)
     requires { len ≤ length out.now }
 {
-    if !output::write_all(&out[..len]) {
-        os::fail(b"penkwadar: cannot write the text");
+    if let Err(error) = output::write_all(&mut io::writer(rt), &out[..len]) {
+        fail(rt, "penkwadar: cannot write the text", Some(error));
+    }
+}
+
+// Tells on standard error what failed, and why where that is known.
+fn fail(rt: &(impl Eprint + Alloc), what: &str, error: Option<io::Error>) {
+    let _ = match error {
+        Some(error) => match format!(in rt.alloc(); "{error}") {
+            Ok(text) => eprintln!(rt; "{what}: {}", reason(text.as_str())),
+            Err(_) => eprintln!(rt; "{what}: {error}"),
+        },
+        None => eprintln!(rt; "{what}"),
+    };
+}
+
+// The text of a system error, without the number that std writes after it.
+fn reason(text: &str) -> &str {
+    match text.split_once(" (os error ") {
+        Some((reason, _)) => reason,
+        None => text,
     }
 }

@@ -1,39 +1,38 @@
-// Writing to standard output. A short write is not the end, nor is one that was interrupted or came too early.
-ghost use Rattle.io.specs.Counts.{IsPrefixLen};
+// Writing to an output. A short write is not the end, nor is one that was interrupted or came too early.
+ghost use Rattle.std.specs.Prelude.{◌≤◌, length};
 
-use crate::piece::{Piece, is_passing};
+use crate::piece::{Piece, failed};
+use std::io;
+use std::io::{ErrorKind, Write};
 
-// Writes all bytes, and answers whether they were written. If not, errno tells why.
-pub fn write_all(bytes: &[u8]) -> bool {
+// Writes all bytes. An error tells why not, when some of them may have been written.
+pub fn write_all<W: Write>(to: &mut W, bytes: &[u8]) -> io::Result<()> {
     let mut count = 0;
     let mut turns = u64::MAX;
     while 0 < turns && count < bytes.len() {
         turns -= 1;
-        let piece = write_piece(&bytes[count..]);
+        let piece = write_piece(to, &bytes[count..]);
         count += piece.count;
         if !piece.more {
-            return false;
+            return Err(piece.error.unwrap_or(io::Error::from(ErrorKind::WriteZero)));
         }
     }
-    count == bytes.len()
+    if count == bytes.len() {
+        return Ok(());
+    }
+    Err(io::Error::from(ErrorKind::TimedOut))
 }
 
 // One write.
-fn write_piece(bytes: &[u8]) -> Piece
-    ensures { IsPrefixLen result.count bytes.now }
+fn write_piece<W: Write>(to: &mut W, bytes: &[u8]) -> Piece
+    ensures { result.count ≤ length bytes.now }
 {
-    let put = libc::write(libc::STDOUT_FILENO, bytes);
-    if put < 0 {
-        return Piece {
-            count: 0,
-            more: is_passing(os::errno()),
-            failed: true,
-        };
-    }
-    let count = io::count(put, bytes);
-    Piece {
-        count,
-        more: 0 < count,
-        failed: false,
+    match to.write(bytes) {
+        Ok(count) => Piece {
+            count,
+            more: 0 < count,
+            error: None,
+        },
+        Err(error) => failed(error),
     }
 }
