@@ -3,8 +3,11 @@
 // for each the state's length, the step, the answer, the checksum, and the words that are not 0 as index and value.
 
 #![tactic(auto)]
+
 ghost use Rattle.std.specs.Prelude.{◌≤◌};
 
+use std::io;
+use std::io::Read;
 use types::step::Step;
 
 // A byte as a wider number.
@@ -12,19 +15,21 @@ fn wide(x: u8) -> u64 {
     x as u64
 }
 
-// One byte of standard input, 0 at its end.
-fn byte() -> u64 {
+// One byte of the input, 0 at its end and where it cannot be read.
+fn byte<R: Read>(input: &mut R) -> u64 {
     let mut b = [0u8; 1];
-    io::read_full(0, &mut b);
-    wide(b[0])
+    match input.read(&mut b) {
+        Ok(_) => wide(b[0]),
+        Err(_) => 0,
+    }
 }
 
-// One number of standard input.
-fn number() -> u64 {
+// One number of the input.
+fn number<R: Read>(input: &mut R) -> u64 {
     let mut v: u64 = 0;
     let mut n: u64 = 0;
     while n < 10 {
-        let b = byte();
+        let b = byte(input);
         v = v % 144115188075855872 * 128 + b % 128;
         if b < 128 {
             return v;
@@ -39,7 +44,7 @@ fn times_prime(h: u64) -> u64 {
     let low = h % 4294967296 * 435;
     let high = h / 4294967296 * 435 % 4294967296 * 4294967296;
     let top = h % 16777216 * 1099511627776;
-    std::num::wrapping_add_u64(std::num::wrapping_add_u64(low, high), top)
+    low.wrapping_add(high).wrapping_add(top)
 }
 
 // One word joins a checksum, lowest byte first.
@@ -83,11 +88,11 @@ fn put(space: &mut [u64], at: usize, v: u64) {
 }
 
 // The words of a vector that are not 0.
-fn fill(space: &mut [u64], count: u64) {
+fn fill<R: Read>(input: &mut R, space: &mut [u64], count: u64) {
     let mut k: u64 = 0;
     while k < count {
-        let at = number() as usize;
-        let v = number();
+        let at = number(input) as usize;
+        let v = number(input);
         put(space, at, v);
         k += 1;
     }
@@ -103,19 +108,19 @@ fn agrees(state: &mut [u64], s: Step, answer: u64, check: u64) -> bool {
 }
 
 // One vector, on a state of `len` words: 0 where it is as expected, else 1.
-fn differs(space: &mut [u64], len: usize) -> u64
+fn differs<R: Read>(input: &mut R, space: &mut [u64], len: usize) -> u64
     ensures { result ≤ 1 }
 {
-    let kind = number();
-    let a = number();
-    let b = number();
-    let c = number();
-    let d = number();
-    let answer = number();
-    let check = number();
-    let count = number();
+    let kind = number(input);
+    let a = number(input);
+    let b = number(input);
+    let c = number(input);
+    let d = number(input);
+    let answer = number(input);
+    let check = number(input);
+    let count = number(input);
     clear(space);
-    fill(space, count);
+    fill(input, space, count);
     if space.len() < len {
         return 1;
     }
@@ -127,23 +132,21 @@ fn differs(space: &mut [u64], len: usize) -> u64
 }
 
 // All vectors: how many differ.
-fn run(space: &mut [u64], total: u64) -> u64 {
+fn run<R: Read>(input: &mut R, space: &mut [u64], total: u64) -> u64 {
     let mut n: u64 = 0;
     let mut differ: u64 = 0;
     while n < total {
-        let len = number() as usize;
-        differ += differs(space, len);
+        let len = number(input) as usize;
+        differ += differs(input, space, len);
         n += 1;
     }
     differ
 }
 
-fn main() {
+fn main(rt: HostRuntime) -> io::Result<()> {
+    let mut input = rt.stdin();
     let mut space = [0u64; 40000];
-    let total = number();
-    let differ = run(&mut space, total);
-    io::print_decimal(1, total);
-    io::write_all(1, b" steps, ");
-    io::print_decimal(1, differ);
-    io::write_all(1, b" differ\n");
+    let total = number(&mut input);
+    let differ = run(&mut input, &mut space, total);
+    println!(rt; "{total} steps, {differ} differ")
 }
