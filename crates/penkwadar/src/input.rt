@@ -1,4 +1,6 @@
 // Reading an input to its end. A short read is not the end, nor is one that was interrupted or came too early.
+ghost use Rattle.std.specs.Prelude.{◌≡◌, ◌<◌, length, take, true, false, IsNone};
+ghost use Rattle.std.specs.Io.KnownBytes.{Consumes, IsAtEnd};
 ghost use Rattle.penkwadar.specs.Counts.{IsPrefixLen};
 
 use crate::piece::{Piece, failed};
@@ -15,7 +17,9 @@ pub struct Input {
 
 // Reads until the buffer is full or the input ends. A proved loop has to end, so it counts its turns down, from a number that no run uses up.
 pub fn read_all<R: Read>(from: &mut R, buf: &mut [u8]) -> Input
-    ensures { IsPrefixLen result.count buf.new }
+    ensures within { IsPrefixLen result.count buf.new }
+    ensures bytes { Consumes (R.remaining from.old) (R.remaining from.new) (take result.count buf.new) }
+    ensures whole { result.whole ≡ true → result.count < length buf.new → IsAtEnd (R.remaining from.new) }
 {
     let mut count = 0;
     let mut turns = u64::MAX;
@@ -40,7 +44,9 @@ pub fn read_all<R: Read>(from: &mut R, buf: &mut [u8]) -> Input
 
 // One read.
 fn read_piece<R: Read>(from: &mut R, buf: &mut [u8]) -> Piece
-    ensures { IsPrefixLen result.count buf.new }
+    ensures within { IsPrefixLen result.count buf.new }
+    ensures bytes { Consumes (R.remaining from.old) (R.remaining from.new) (take result.count buf.new) }
+    ensures end { IsNone result.error → result.more ≡ false → 0 < length buf.new → IsAtEnd (R.remaining from.new) }
 {
     match from.read(buf) {
         Ok(count) => Piece {

@@ -1,12 +1,18 @@
 // Writing to an output. A short write is not the end, nor is one that was interrupted or came too early.
-ghost use Rattle.std.specs.Prelude.{◌≤◌, length};
+ghost use Rattle.std.specs.Prelude.{◌≤◌, length, take, OnOk, OnErr};
+ghost use Rattle.std.specs.Io.KnownBytes.{Appends};
+ghost use Rattle.penkwadar.specs.Counts.{AppendsSome};
 
 use crate::piece::{Piece, failed};
 use std::io;
 use std::io::{ErrorKind, Write};
 
-// Writes all bytes. An error tells why not, when some of them may have been written.
-pub fn write_all<W: Write>(to: &mut W, bytes: &[u8]) -> io::Result<()> {
+// Writes all bytes. An error tells why not: that of a write that failed for good, or another where a write took nothing or no turn was left. Then some
+// first bytes may have been written.
+pub fn write_all<W: Write>(to: &mut W, bytes: &[u8]) -> io::Result<()>
+    ensures ok { OnOk result (Appends (W.contents to.old) (W.contents to.new) bytes.now) }
+    ensures err { OnErr result (AppendsSome (W.contents to.old) (W.contents to.new) bytes.now) }
+{
     let mut count = 0;
     let mut turns = u64::MAX;
     while 0 < turns && count < bytes.len() {
@@ -25,7 +31,8 @@ pub fn write_all<W: Write>(to: &mut W, bytes: &[u8]) -> io::Result<()> {
 
 // One write.
 fn write_piece<W: Write>(to: &mut W, bytes: &[u8]) -> Piece
-    ensures { result.count ≤ length bytes.now }
+    ensures within { result.count ≤ length bytes.now }
+    ensures bytes { Appends (W.contents to.old) (W.contents to.new) (take result.count bytes.now) }
 {
     match to.write(bytes) {
         Ok(count) => Piece {

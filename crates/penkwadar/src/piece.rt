@@ -1,5 +1,5 @@
 // What one call of `read` or `write` moved.
-ghost use Rattle.std.specs.Prelude.{◌≡◌};
+ghost use Rattle.std.specs.Prelude.{◌≡◌, Some};
 ghost use Rattle.penkwadar.specs.Passing.{is_passing};
 
 use std::{io, thread};
@@ -19,7 +19,8 @@ pub struct Piece {
 
 // A call that failed.
 pub fn failed(error: io::Error) -> Piece
-    ensures { result.count ≡ 0 }
+    ensures count { result.count ≡ 0 }
+    ensures error { result.error ≡ Some error }
 {
     let more = match error.raw_os_error() {
         Some(code) => is_passing(code),
