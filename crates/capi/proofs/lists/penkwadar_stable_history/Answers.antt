@@ -1,0 +1,19 @@
+-- `capi::lists::penkwadar_stable_history` meets its contract.
+use mathlib.Core.Path.{◌∙◌}
+use Rattle.histories.specs.History.{listing}
+use Rattle.word_outputs.specs.ListOutputs.{history_answer, entries_after, entry_count_after}
+use Rattle.capi.proofs.Counts.{no_word, counted, listing_word_lem}
+use borrow.Author.Rules.{rules}
+use Rattle.capi.proofs.lists.penkwadar_stable_history.Goals as goal
+
+pub returns-then-count-lt1 : goal.returns-then-count-lt1
+unfolding history_answer entries_after entry_count_after
+returns-then-count-lt1 c =
+    let t = no_word _ _ _ _ _ c.if-count-lt1.true in
+    record { value = t.0; out_after = t.1.0; count_after = t.1.1 }
+
+pub returns : goal.returns
+unfolding history_answer entries_after entry_count_after listing
+returns c =
+    let t = counted _ _ _ _ _ c.if-count-lt1.false (c.put_listing.ensures.value ∙ c.stable_history-listing.ensures.result_value) c.stable_history-listing.ensures.out_after (c.put_listing.ensures.out_after ∙ listing_word_lem _ _ _ c.stable_history-listing.ensures.value) in
+    record { value = t.0; out_after = t.1.0; count_after = t.1.1 }

@@ -1,0 +1,17 @@
+-- `word_outputs::words::put_listing` meets its contract.
+use Rattle.stable_entries.specs.Listing.{listing_number}
+use Rattle.word_outputs.specs.WordOutputs.{listing_word}
+use borrow.Author.Rules.{rules}
+use Rattle.word_outputs.proofs.words.put_listing.Goals as goal
+
+pub returns-in-Entries : goal.returns-in-Entries
+unfolding listing_number listing_word
+returns-in-Entries c =
+    let e = c.in-Entries.is in
+    record { value = rw e; out_after = rw e }
+
+pub returns-in-Rejected : goal.returns-in-Rejected
+unfolding listing_number listing_word
+returns-in-Rejected c =
+    let e = c.in-Rejected.is in
+    record { value = rw e; out_after = rw e }
