@@ -61,21 +61,21 @@ quick_count_lem f s = rw (quick_rejection_lem f s)
 pub quick_after_all_lem : {Z : ℕ} {w : List ℕ} → WellFormed Z w → (ss : List Step) → after_all w ss ≡ quick_after_all Z w ss
 unfolding after_all quick_after_all
 quick_after_all_lem f [] = refl
-quick_after_all_lem {Z} f (s ∷ ss) =
-    quick_after_all_lem (after_formed f s) ss ∙ ap (λ (u : List ℕ). quick_after_all Z u ss) (quick_after_lem f s)
+quick_after_all_lem {Z = Z} {w = w} f (s ∷ ss) =
+    quick_after_all_lem {w = after w s} (after_formed f s) ss ∙ ap (λ (u : List ℕ). quick_after_all Z u ss) (quick_after_lem f s)
 
 pub quick_rejected_in_lem : {Z : ℕ} {w : List ℕ} → WellFormed Z w → (ss : List Step) → rejected_in w ss ≡ quick_rejected_in Z w ss
 unfolding rejected_in quick_rejected_in
 quick_rejected_in_lem f [] = refl
-quick_rejected_in_lem {Z} f (s ∷ ss) =
+quick_rejected_in_lem {Z = Z} {w = w} f (s ∷ ss) =
     ap₂ ◌+◌ (ap (λ (n : ℕ). cond (eqb n 0) 0 1) (quick_rejection_lem f s))
-    (quick_rejected_in_lem (after_formed f s) ss ∙ ap (λ (u : List ℕ). quick_rejected_in Z u ss) (quick_after_lem f s))
+    (quick_rejected_in_lem {w = after w s} (after_formed f s) ss ∙ ap (λ (u : List ℕ). quick_rejected_in Z u ss) (quick_after_lem f s))
 
 quick_tally_from : {Z : ℕ} {w : List ℕ} → WellFormed Z w → (ss : List Step) (t : Tally) → tally_from t w ss ≡ quick_tally Z t w ss
 unfolding tally_from quick_tally
 quick_tally_from f [] t = refl
-quick_tally_from {Z} {w} f (s ∷ ss) t =
-    quick_tally_from (after_formed f s) ss (cond (eqb (rejection w s) 0) t (counted_in t (count_of w s)))
+quick_tally_from {Z = Z} {w = w} f (s ∷ ss) t =
+    quick_tally_from {w = after w s} (after_formed f s) ss (cond (eqb (rejection w s) 0) t (counted_in t (count_of w s)))
     ∙ rw (quick_after_lem f s, quick_count_lem f s, quick_rejection_lem f s)
 
 pub quick_tally_lem : {Z : ℕ} {w : List ℕ} → WellFormed Z w → (ss : List Step) → tally_of w ss ≡ quick_tally Z nothing_counted w ss
@@ -84,9 +84,9 @@ quick_tally_lem {Z} {w} f ss = sym (tally_from_nothing w ss) ∙ quick_tally_fro
 pub quick_lines_lem : {Z : ℕ} {w : List ℕ} → WellFormed Z w → (ss : List Step) (n : ℕ) → step_lines n w ss ≡ quick_lines Z n w ss
 unfolding step_lines quick_lines
 quick_lines_lem f [] n = refl
-quick_lines_lem {Z} {w} f (s ∷ ss) n =
+quick_lines_lem {Z = Z} {w = w} f (s ∷ ss) n =
     ap (λ (u : List ℕ). (decimal (suc n) ++ (spaced s.kind ++ (spaced (rejection w s) ++ newline))) ++ u)
-    (quick_lines_lem (after_formed f s) ss (suc n))
+    (quick_lines_lem {w = after w s} (after_formed f s) ss (suc n))
     ∙ rw (quick_after_lem f s, quick_rejection_lem f s)
 
 -- ---- rows on a well-formed state w, which is u

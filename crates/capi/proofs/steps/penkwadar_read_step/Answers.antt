@@ -55,7 +55,7 @@ overflow_add-at c =
     let rest : let a = c.args in c.first_step.result ≡ read_step (drop a.at a.log.now) = let a = c.args in
     let whole = take_all (length a.log.now - a.at) (drop a.at a.log.now) (omega (arith, length-drop a.at a.log.now)) in
     rw whole at c.first_step.ensures.value in
-    omega (arith, c.XX-good.0.0, step_inside c.args.log.now c.args.at (rest) c.in-Step.is)
+    omega (arith, step_inside c.args.log.now c.args.at (rest) c.in-Step.is)
 
 pub returns-in-Step : goal.returns-in-Step
 unfolding from reading_number reading_step reading_next step_words
