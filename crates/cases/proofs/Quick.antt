@@ -8,7 +8,7 @@ use Rattle.types.specs.declared.step.Step.{Step}
 use Rattle.types.specs.Members.{is_host}
 use Rattle.model.specs.Layout.{orderer}
 use Rattle.types.specs.StepNames.{shard_of, configuration_of, acting_host}
-use Rattle.model.specs.Steps.{rejection}
+use Rattle.model.specs.Steps.{after, rejection}
 use Rattle.model.specs.Replay.{after_all, rejected_in}
 use Rattle.model.specs.Transcript.{decimal, spaced, newline, step_lines}
 use Rattle.model.specs.Marked.{answers_from}
