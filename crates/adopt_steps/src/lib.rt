@@ -2,6 +2,7 @@
 // in range. The third and the fourth number are tested here (7).
 
 #![tactic(auto)]
+
 ghost use Rattle.std.specs.Prelude.{◌≡◌, min, max};
 ghost use Rattle.lookup.specs.KindContracts.{ReadyKind, kind_answer, kind_after};
 

@@ -2,6 +2,7 @@
 // and the step's shard and index to be in range. The third and the fourth number are tested here (7).
 
 #![tactic(auto)]
+
 ghost use Rattle.std.specs.Prelude.{◌≡◌};
 ghost use Rattle.model.specs.Layout.{sequencer};
 ghost use Rattle.lookup.specs.Ready.{ReadyHost, Placed};

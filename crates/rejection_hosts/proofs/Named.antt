@@ -13,7 +13,7 @@ use Rattle.types.specs.declared.step.Step.{Step}
 use Rattle.model.specs.Checks.{first_of}
 use Rattle.types.specs.Kinds.{kind_of}
 use Rattle.types.specs.Members.{is_host}
-use Rattle.model.specs.Layout.{shards_of, is_state_length, orderer}
+use Rattle.model.specs.Layout.{shards_of, is_state_length}
 use Rattle.model.specs.Configuration.{configuration}
 use Rattle.types.specs.StepNames.{shard_of, configuration_of, acting_host}
 use Rattle.model.specs.Steps.{are_numbers, in_range, step_checks, rejection}

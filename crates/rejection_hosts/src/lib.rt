@@ -1,6 +1,7 @@
 // Whose rejection a step's is: the acting host, or none.
 
 #![tactic(auto)]
+
 ghost use Rattle.std.specs.Prelude.{◌≡◌};
 ghost use Rattle.rejection_hosts.specs.RejectionHosts.{RejectedStep, named_host, count_of};
 

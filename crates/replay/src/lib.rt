@@ -1,6 +1,7 @@
 // The log run: steps are read and tried in order, on a state that is scanned once.
 
 #![tactic(auto)]
+
 ghost use Rattle.std.specs.Prelude.{◌≡◌, cond, ◌+◌, ◌-◌, ◌^◌, ◌<◌, eqb, length};
 ghost use Rattle.model.specs.Replay.{rejected_in, replayed, report, after_replay};
 ghost use Rattle.model.specs.Results.{stop_number, stop_code, replay_number, replay_code, replay_bytes};

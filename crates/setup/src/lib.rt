@@ -1,6 +1,7 @@
 // Setup: the first state of every run, from a plan.
 
 #![tactic(auto)]
+
 ghost use Rattle.std.specs.Prelude.{◌≡◌};
 ghost use Rattle.model.specs.Setup.{setup_rejection, after_setup};
 

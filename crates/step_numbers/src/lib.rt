@@ -1,6 +1,7 @@
 // The numbers of a step: which kinds are kept or unknown, and which numbers are out of range. No state is needed for this but its number of shards.
 
 #![tactic(auto)]
+
 ghost use Rattle.std.specs.Prelude.{◌≡◌};
 ghost use Rattle.types.specs.Rules.{Known};
 ghost use Rattle.model.specs.Steps.{are_numbers};

@@ -2,7 +2,6 @@
 use Rattle.types.specs.declared.kind.Kind.TheVariants.{Adopt}
 use Rattle.lookup.proofs.KindAnswers.{out_of_range_lem}
 use Rattle.adopt_steps.proofs.AdoptSteps.{known, named, nowhere, there, is_orderer, not_active, holds, orderer-pending, done}
-use borrow.Author.Rules.{rules}
 use Rattle.adopt_steps.proofs.adopt.Goals as goal
 
 pub are_numbers-requires : goal.are_numbers-requires
@@ -45,12 +44,11 @@ returns-then-state-o-eq-PENDING c =
     record { value = t.0; state_after = t.1 }
 
 pub copy_replica-requires : goal.copy_replica-requires
-copy_replica-requires c =
-    (
-      c.find-found.ensures.1,
-      holds c.requires _ _ c.are_numbers.ensures c.if-not-are_numbers.false-raw c.find-found.ensures.0 c.if-found-ne0.false
-          c.configuration_of.ensures c.if-host-configuration_of.false c.if-state-p-ne-ACTIVE.false c.orderer_place-o.ensures.0 c.orderer_place-o.ensures.1,
-    )
+copy_replica-requires c = (
+  c.find-found.ensures.1,
+  holds c.requires _ _ c.are_numbers.ensures c.if-not-are_numbers.false-raw c.find-found.ensures.0 c.if-found-ne0.false
+      c.configuration_of.ensures c.if-host-configuration_of.false c.if-state-p-ne-ACTIVE.false c.orderer_place-o.ensures.0 c.orderer_place-o.ensures.1,
+)
 
 pub returns : goal.returns
 returns c =

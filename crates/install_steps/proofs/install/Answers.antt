@@ -6,7 +6,6 @@ use Rattle.install_steps.proofs.InstallReads.{installed_few}
 use Rattle.install_steps.proofs.Wedges.{first_ready}
 use Rattle.install_steps.proofs.InstallSteps.{known, named, few, nowhere, not_stable, no_issue, is_issue_lem, not_next, not_wedged}
 use Rattle.install_steps.proofs.InstallSteps.{earlier, next_ready, done}
-use borrow.Author.Rules.{rules}
 use Rattle.install_steps.proofs.install.Goals as goal
 
 pub are_numbers-requires : goal.are_numbers-requires

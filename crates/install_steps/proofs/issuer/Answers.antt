@@ -1,7 +1,6 @@
 -- `install_steps::issuer` meets its contract.
 use Rattle.model.proofs.Heads.{sequencer_word}
 use Rattle.install_steps.proofs.InstallReads.{sequencer_ready}
-use borrow.Author.Rules.{rules}
 use Rattle.install_steps.proofs.issuer.Goals as goal
 
 pub find-requires : goal.find-requires

@@ -2,7 +2,6 @@
 use Prim.Native.Nat.{◌≤◌, ◌<◌}
 use native.Mathlib.Omega.{arith}
 use Rattle.rejection_hosts.proofs.Named.{own_count, no_count_lem}
-use borrow.Author.Rules.{rules}
 use Rattle.rejection_hosts.proofs.count_of.Goals as goal
 
 pub returns-then-host-lt-NO_HOST : goal.returns-then-host-lt-NO_HOST

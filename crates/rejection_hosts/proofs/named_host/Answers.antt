@@ -3,8 +3,7 @@ use mathlib.Core.Path.{ap}
 use mathlib.Core.Logic.{inl, inr, ⊎_elim}
 use Rattle.types.specs.declared.configuration.Configuration.{Configuration}
 use Rattle.rejection_hosts.proofs.Named.{index_least, names-configuration, no_orderer, by_orderer}
-use borrow.Author.Rules.{rules}
-use borrow.Author.Tests.{eqb-true, eqb-false}
+use borrow.Author.Tests.{eqb-false}
 use Rattle.rejection_hosts.proofs.named_host.Goals as goal
 
 pub returns-then-answer-eq7 : goal.returns-then-answer-eq7

@@ -5,7 +5,6 @@ use mathlib.Core.Path.{◌≡◌, refl}
 use mathlib.Core.Bool.{Bool, true, false, cond, not}
 use lib.Dec.{eqb}
 use mir.Val.{bool_byte}
-use borrow.Author.Rules.{rules}
 use Rattle.replay.proofs.counted_more.Goals as goal
 
 -- a test as a number

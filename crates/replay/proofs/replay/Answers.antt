@@ -1,6 +1,5 @@
 -- `replay::replay` meets its contract.
 use Rattle.replay.proofs.Whole.{rejects, runs, formed}
-use borrow.Author.Rules.{rules}
 use Rattle.replay.proofs.replay.Goals as goal
 
 pub returns-then-early-ne0 : goal.returns-then-early-ne0

@@ -1,9 +1,5 @@
 -- `setup::setup` meets its contract.
-use mathlib.Core.Path.{ap, ◌∙◌}
-use lib.ListN.{length}
-use Rattle.model.proofs.WellFormedSetup.{setup_length}
 use Rattle.setup.proofs.Entry.{no_shards, few, no_plan, may_write, written}
-use borrow.Author.Rules.{rules}
 use Rattle.setup.proofs.setup.Goals as goal
 
 pub returns-then-shards-eq0 : goal.returns-then-shards-eq0

@@ -1,7 +1,6 @@
 -- `step_numbers::are_numbers` meets its contract.
 use mathlib.Core.Path.{◌∙◌}
 use Rattle.step_numbers.proofs.StepRanges.{too_large, is_host_lem, is_entry_lem}
-use borrow.Author.Rules.{rules}
 use Rattle.step_numbers.proofs.are_numbers.Goals as goal
 
 pub returns-then-rules-d : goal.returns-then-rules-d

@@ -1,6 +1,5 @@
 -- `step_numbers::range_rejection` meets its contract.
 use Rattle.step_numbers.proofs.StepRanges.{bad_kind, no_index, in_range_lem}
-use borrow.Author.Rules.{rules}
 use Rattle.step_numbers.proofs.range_rejection.Goals as goal
 
 pub returns-then-bad-ne0 : goal.returns-then-bad-ne0

@@ -3,7 +3,6 @@ use Rattle.types.specs.declared.kind.Kind.TheVariants.{CatchUp}
 use Rattle.lookup.proofs.KindAnswers.{out_of_range_lem}
 use Rattle.inherit_steps.proofs.Beginnings.{acting_host_lem, nowhere, not_pending}
 use Rattle.inherit_steps.proofs.CatchUpSteps.{catching_up, peer_host, not_there, peer_pending, holds, done}
-use borrow.Author.Rules.{rules}
 use Rattle.inherit_steps.proofs.catch_up.catch_up.Goals as goal
 
 pub are_numbers-requires : goal.are_numbers-requires
@@ -44,12 +43,11 @@ returns-then-state-q-eq-PENDING c =
     record { value = t.0; state_after = t.1 }
 
 pub copy_replica-requires : goal.copy_replica-requires
-copy_replica-requires c =
-    (
-      c.find-found.ensures.1,
-      holds c.requires _ _ c.are_numbers.ensures c.if-not-are_numbers.false-raw c.find-found.ensures.0
-          c.if-found-ne0.false c.if-state-p-ne-PENDING.false c.find-other.ensures.0 c.if-other-ne0.false c.find-other.ensures.1,
-    )
+copy_replica-requires c = (
+  c.find-found.ensures.1,
+  holds c.requires _ _ c.are_numbers.ensures c.if-not-are_numbers.false-raw c.find-found.ensures.0
+      c.if-found-ne0.false c.if-state-p-ne-PENDING.false c.find-other.ensures.0 c.if-other-ne0.false c.find-other.ensures.1,
+)
 
 pub returns : goal.returns
 returns c =

@@ -4,7 +4,6 @@ use Rattle.types.specs.declared.kind.Kind.TheVariants.{Inherit}
 use Rattle.lookup.proofs.KindAnswers.{out_of_range_lem}
 use Rattle.inherit_steps.proofs.Beginnings.{acting_host_lem, nowhere, not_pending, later}
 use Rattle.inherit_steps.proofs.InheritSteps.{inheriting, before, not_there, not_immutable_lem, holds, done}
-use borrow.Author.Rules.{rules}
 use Rattle.inherit_steps.proofs.inherit.inherit.Goals as goal
 
 pub are_numbers-requires : goal.are_numbers-requires
@@ -53,12 +52,11 @@ pub overflow_add-source : goal.overflow_add-source
 overflow_add-source c = omega (arith, (before c.requires _ _ c.are_numbers.ensures c.if-not-are_numbers.false-raw).host)
 
 pub copy_replica-requires : goal.copy_replica-requires
-copy_replica-requires c =
-    (
-      c.find-found.ensures.1,
-      holds c.requires _ _ c.are_numbers.ensures c.if-not-are_numbers.false-raw c.find-found.ensures.0
-          c.if-found-ne0.false c.if-state-p-ne-PENDING.false c.find-other.ensures.0 c.if-other-ne0.false c.find-other.ensures.1,
-    )
+copy_replica-requires c = (
+  c.find-found.ensures.1,
+  holds c.requires _ _ c.are_numbers.ensures c.if-not-are_numbers.false-raw c.find-found.ensures.0
+      c.if-found-ne0.false c.if-state-p-ne-PENDING.false c.find-other.ensures.0 c.if-other-ne0.false c.find-other.ensures.1,
+)
 
 pub returns : goal.returns
 returns c =

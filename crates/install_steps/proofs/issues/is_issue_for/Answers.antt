@@ -1,8 +1,6 @@
 -- `install_steps::issues::is_issue_for` meets its contract.
 use mathlib.Core.Path.{sym, ◌∙◌}
-use borrow.Author.Tests.{not-true, not-false}
 use Rattle.model.specs.Entries.{is_issue_for}
-use borrow.Author.Rules.{rules}
 use Rattle.install_steps.proofs.issues.is_issue_for.Goals as goal
 
 pub returns-then-not-is_issue : goal.returns-then-not-is_issue

@@ -2,8 +2,7 @@
 use native.Mathlib.Omega.{arith}
 use mathlib.Core.Path.{◌∙◌}
 use lib.ListN.{length-set}
-use Rattle.install_steps.proofs.InstallStores.{next_unused, next_stored, headed_long}
-use borrow.Author.Rules.{rules}
+use Rattle.install_steps.proofs.InstallStores.{next_unused, next_stored}
 use Rattle.install_steps.proofs.next.install_next.Goals as goal
 
 pub bounds-state-at-3 : goal.bounds-state-at-3

@@ -1,8 +1,8 @@
 -- Answers of `make_pending`.
-use Prim.Native.Nat.{◌≤◌, ◌<◌, ◌-◌}
+use Prim.Native.Nat.{◌<◌}
 use native.Mathlib.Omega.{arith}
-use mathlib.Core.Path.{◌≡◌, refl, ap, ◌∙◌}
-use lib.ListN.{length, length-set}
+use mathlib.Core.Path.{refl, ap, ◌∙◌}
+use lib.ListN.{length-set}
 use Rattle.install_steps.specs.Next.{pending_from}
 use Rattle.install_steps.proofs.PendingStores.{pending_stored}
 use borrow.Author.Rules.{rules}

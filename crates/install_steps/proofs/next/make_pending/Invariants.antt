@@ -1,11 +1,8 @@
 -- `install_steps::next::make_pending` meets its contract.
-use Prim.Native.Nat.{◌≤◌, ◌<◌, ◌-◌}
-use native.Mathlib.Omega.{arith}
-use mathlib.Core.Path.{◌≡◌, refl, ap, ◌∙◌}
-use lib.ListN.{length, length-set}
+use Prim.Native.Nat.{◌≤◌, ◌-◌}
+use mathlib.Core.Path.{◌≡◌}
+use lib.ListN.{length}
 use Rattle.install_steps.specs.Next.{pending_from}
-use Rattle.install_steps.proofs.PendingStores.{pending_stored}
-use borrow.Author.Rules.{rules}
 use Rattle.install_steps.proofs.next.make_pending.Given as goal
 
 abbrev pub invariant-loop-k : goal.invariant-loop-k

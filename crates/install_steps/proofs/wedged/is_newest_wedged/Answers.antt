@@ -2,7 +2,6 @@
 use mathlib.Core.Path.{◌∙◌}
 use Rattle.install_steps.proofs.InstallReads.{installed_least}
 use Rattle.install_steps.proofs.Wedges.{newest_ready, newest_is}
-use borrow.Author.Rules.{rules}
 use Rattle.install_steps.proofs.wedged.is_newest_wedged.Goals as goal
 
 pub overflow_sub-n : goal.overflow_sub-n

@@ -1,7 +1,5 @@
 -- Answers of `is_wedged`.
-use Prim.Native.Nat.{◌-◌}
-use Rattle.install_steps.proofs.Wedges.{Unwedged, start, turn, found, nowhere}
-use borrow.Author.Rules.{rules}
+use Rattle.install_steps.proofs.Wedges.{start, turn, found, nowhere}
 use Rattle.install_steps.proofs.wedged.is_wedged.Goals as goal
 
 pub loop-k-init : goal.loop-k-init

@@ -1,7 +1,6 @@
 -- `install_steps::wedged::is_wedged` meets its contract.
 use Prim.Native.Nat.{◌-◌}
-use Rattle.install_steps.proofs.Wedges.{Unwedged, start, turn, found, nowhere}
-use borrow.Author.Rules.{rules}
+use Rattle.install_steps.proofs.Wedges.{Unwedged}
 use Rattle.install_steps.proofs.wedged.is_wedged.Given as goal
 
 abbrev pub invariant-loop-k : goal.invariant-loop-k

@@ -1,11 +1,11 @@
 -- Answers of `all_alike`.
-use Prim.Native.Nat.{◌-◌}
-use Rattle.learn_steps.proofs.LearnCompared.{Entries, cuts_match, begun, next_entry}
-use Rattle.learn_steps.proofs.LearnCompared.{Replicas, no_replica, next_replica, ended, ended_short, ended_differing}
-use borrow.Author.Rules.{rules}
+use Rattle.learn_steps.proofs.LearnCompared.{cuts_match, begun, next_entry}
+use Rattle.learn_steps.proofs.LearnCompared.{no_replica, next_replica, ended, ended_short, ended_differing}
 use Rattle.learn_steps.proofs.learn.all_alike.Goals as goal
 use Rattle.learn_steps.proofs.learn.all_alike.Goals.{
-  else-replicas-test, then-replicas-test+then-state-q, then-replicas-test+else-state-q+then-loop-p-test+then-state-entries
+  else-replicas-test,
+  then-replicas-test+then-state-q,
+  then-replicas-test+else-state-q+then-loop-p-test+then-state-entries,
 }
 
 pub replicas-init : goal.replicas-init
@@ -32,8 +32,8 @@ returns c =
     let a = c.args in
     let k = c.replicas.k in
     elim c.replicas-test.branch [
-      else-replicas-test w ↦ ended a.state.now a.first a.size a.n a.own k w.replicas-test.false c.replicas.invariant
-    | then-replicas-test+then-state-q w ↦ ended_short a.state.now a.first a.size a.n a.own k w.replicas-test.true w.if-state-q.true
-    | then-replicas-test+else-state-q+then-loop-p-test+then-state-entries w ↦
-        ended_differing a.state.now a.first a.size a.n a.own k w.loop-p.p w.replicas-test.true w.loop-p-test.true w.if-state-entries.true
+      | else-replicas-test w ↦ ended a.state.now a.first a.size a.n a.own k w.replicas-test.false c.replicas.invariant
+      | then-replicas-test+then-state-q w ↦ ended_short a.state.now a.first a.size a.n a.own k w.replicas-test.true w.if-state-q.true
+      | then-replicas-test+else-state-q+then-loop-p-test+then-state-entries w ↦
+          ended_differing a.state.now a.first a.size a.n a.own k w.loop-p.p w.replicas-test.true w.loop-p-test.true w.if-state-entries.true
     ]

@@ -1,9 +1,7 @@
 -- `learn_steps::learn::all_alike` meets its contract.
 use Prim.Native.Nat.{◌-◌}
-use mathlib.Core.Logic.{⊎_elim}
-use Rattle.learn_steps.proofs.LearnCompared.{Entries, cuts_match, begun, next_entry}
-use Rattle.learn_steps.proofs.LearnCompared.{Replicas, no_replica, next_replica, ended, ended_short, ended_differing}
-use borrow.Author.Rules.{rules}
+use Rattle.learn_steps.proofs.LearnCompared.{Entries}
+use Rattle.learn_steps.proofs.LearnCompared.{Replicas}
 use Rattle.learn_steps.proofs.learn.all_alike.Given as goal
 
 abbrev pub invariant-loop-p : goal.invariant-loop-p

@@ -3,7 +3,6 @@ use native.Mathlib.Omega.{arith}
 use Rattle.types.specs.declared.kind.Kind.TheVariants.{Learn}
 use Rattle.lookup.proofs.KindAnswers.{out_of_range_lem}
 use Rattle.learn_steps.proofs.LearnSteps.{known, named, nowhere, not_active, not_above, comparable, unlike, done}
-use borrow.Author.Rules.{rules}
 use Rattle.learn_steps.proofs.learn.learn.Goals as goal
 
 pub are_numbers-requires : goal.are_numbers-requires

@@ -1,8 +1,7 @@
 -- `quick_reader::long::byte_count` meets its contract: from the entry's last bytes back, each is counted with those after it. Assumes nothing.
-use Prim.Native.Nat.{ℕ, ◌+◌, ◌≤◌}
+use Prim.Native.Nat.{◌+◌, ◌≤◌}
 use native.Mathlib.Omega.{arith}
 use mathlib.Core.Path.{◌≡◌}
-use mathlib.Core.List.{List}
 use lib.ListN.{length, drop}
 use Rattle.quick_reader.specs.Long.{groups_count, entry_bytes, long_length}
 use Rattle.quick_reader.proofs.Groups.{count_one, count_more, groups_most}

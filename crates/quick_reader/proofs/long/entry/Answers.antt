@@ -1,8 +1,7 @@
 -- `quick_reader::long::entry` meets its contract: from the entry's last bytes back, each is joined to the number of those after it. Assumes nothing.
-use Prim.Native.Nat.{ℕ, ◌+◌, ◌≤◌}
+use Prim.Native.Nat.{◌+◌, ◌≤◌}
 use native.Mathlib.Omega.{arith}
 use mathlib.Core.Path.{◌≡◌}
-use mathlib.Core.List.{List}
 use lib.ListN.{length, drop}
 use Rattle.quick_reader.specs.Long.{groups_value, entry_bytes, long_entry}
 use Rattle.quick_reader.proofs.Groups.{value_one, value_more, groups_below}

@@ -6,7 +6,6 @@ use lib.ListN.{get_or}
 use Rattle.model.proofs.Joined.{right_most}
 use Rattle.model.proofs.Ranges.{not_passed}
 use Rattle.quick_reader.proofs.LongAdds.{long_fits, long_kind, long_joined, long_told}
-use borrow.Author.Rules.{rules}
 use Rattle.quick_reader.proofs.long.is_long_add.Goals as goal
 
 pub returns-then-log-at : goal.returns-then-log-at

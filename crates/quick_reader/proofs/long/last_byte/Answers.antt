@@ -1,7 +1,6 @@
 -- `quick_reader::long::last_byte` meets its contract: from the entry's last bytes back, each is the last one or leaves it to those after it. Assumes nothing.
 use Rattle.quick_reader.specs.Long.{entry_bytes}
 use Rattle.quick_reader.proofs.Groups.{byte_one, byte_more}
-use borrow.Author.Rules.{rules}
 use Rattle.quick_reader.proofs.long.last_byte.Goals as goal
 
 pub returns : goal.returns

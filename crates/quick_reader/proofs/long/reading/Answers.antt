@@ -2,7 +2,6 @@
 use native.Mathlib.Omega.{arith}
 use mathlib.Core.Path.{sym}
 use Rattle.model.proofs.Results.{reads_at}
-use borrow.Author.Rules.{rules}
 use Rattle.quick_reader.proofs.LongAdds.{long_fits, long_length_most, long_read}
 use Rattle.quick_reader.proofs.long.reading.Goals as goal
 

@@ -5,7 +5,6 @@ use lib.ListN.{length}
 use Rattle.model.specs.Log.{step_of}
 use Rattle.quick_reader.specs.Long.{long_step}
 use Rattle.quick_reader.proofs.LongAdds.{long_fits}
-use borrow.Author.Rules.{rules}
 use Rattle.quick_reader.proofs.long.step.Goals as goal
 
 pub overflow_add-result : goal.overflow_add-result

@@ -2,7 +2,6 @@
 use native.Mathlib.Omega.{arith}
 use Rattle.model.proofs.Ranges.{not_passed}
 use Rattle.quick_reader.proofs.ShortSteps.{short_fits, short_kind_least, short_kind_most, short_joined}
-use borrow.Author.Rules.{rules}
 use Rattle.quick_reader.proofs.short.is_short.Goals as goal
 
 pub returns-then-log-at : goal.returns-then-log-at

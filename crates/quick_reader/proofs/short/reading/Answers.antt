@@ -2,7 +2,6 @@
 use native.Mathlib.Omega.{arith}
 use mathlib.Core.Path.{sym}
 use Rattle.model.proofs.Results.{reads_at}
-use borrow.Author.Rules.{rules}
 use Rattle.quick_reader.proofs.ShortSteps.{short_fits, short_length_most, short_read}
 use Rattle.quick_reader.proofs.short.reading.Goals as goal
 

@@ -5,7 +5,6 @@ use lib.ListN.{length}
 use Rattle.model.specs.Log.{step_of}
 use Rattle.quick_reader.specs.Short.{short_step}
 use Rattle.quick_reader.proofs.ShortSteps.{short_fits}
-use borrow.Author.Rules.{rules}
 use Rattle.quick_reader.proofs.short.step.Goals as goal
 
 pub bounds-log-at : goal.bounds-log-at

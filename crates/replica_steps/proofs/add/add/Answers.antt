@@ -4,7 +4,6 @@ use lib.ListN.{length-set}
 use Rattle.types.specs.declared.kind.Kind.TheVariants.{Add}
 use Rattle.lookup.proofs.KindAnswers.{out_of_range_lem}
 use Rattle.replica_steps.proofs.AddSteps.{known, named, proper, nowhere, holds_it, not_active, not_sequencer, against, full, done}
-use borrow.Author.Rules.{rules}
 use Rattle.replica_steps.proofs.add.add.Goals as goal
 
 pub are_numbers-requires : goal.are_numbers-requires

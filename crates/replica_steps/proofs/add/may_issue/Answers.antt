@@ -2,11 +2,9 @@
 use native.Mathlib.Nat.{add-zero}
 use native.Mathlib.Omega.{arith}
 use mathlib.Core.Path.{sym, ◌∙◌}
-use borrow.Author.Tests.{not-true, not-false}
 use Rattle.model.specs.Layout.{sequencer, head_word, head_place}
 use Rattle.model.specs.Add.{may_issue}
 use Rattle.model.proofs.Entries.{proper_issue}
-use borrow.Author.Rules.{rules}
 use Rattle.replica_steps.proofs.add.may_issue.Goals as goal
 
 pub returns-then-not-is_issue : goal.returns-then-not-is_issue

@@ -1,7 +1,5 @@
 -- `replica_steps::entries::conflict` meets its contract.
 use mathlib.Core.Path.{sym, ◌∙◌}
-use borrow.Author.Rules.{rules}
-use borrow.Author.Tests.{not-true, not-false}
 use Rattle.replica_steps.proofs.Conflicts.{is_held, take_free, issue_free, is_rivalled}
 use Rattle.replica_steps.proofs.entries.conflict.Goals as goal
 

@@ -3,7 +3,6 @@ use Prim.Native.Nat.{ℕ}
 use native.Mathlib.Omega.{arith}
 use mathlib.Core.Path.{ap, ◌∙◌}
 use mathlib.Core.List.{List}
-use borrow.Author.Rules.{rules}
 use Rattle.model.specs.Checks.{first_of}
 use Rattle.lookup.proofs.StateWords.{length_few}
 use Rattle.replica_steps.specs.Adds.{held_checks}

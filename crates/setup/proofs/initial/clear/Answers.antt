@@ -1,7 +1,5 @@
 -- Answers of `clear`.
-use Prim.Native.Nat.{◌-◌}
-use lib.ListN.{length}
-use Rattle.setup.proofs.InitialZeros.{Cleared, none_cleared, next_cleared, all_cleared}
+use Rattle.setup.proofs.InitialZeros.{none_cleared, next_cleared, all_cleared}
 use borrow.Author.Rules.{rules}
 use Rattle.setup.proofs.initial.clear.Goals as goal
 

@@ -1,8 +1,7 @@
 -- `setup::initial::clear` meets its contract.
 use Prim.Native.Nat.{◌-◌}
 use lib.ListN.{length}
-use Rattle.setup.proofs.InitialZeros.{Cleared, none_cleared, next_cleared, all_cleared}
-use borrow.Author.Rules.{rules}
+use Rattle.setup.proofs.InitialZeros.{Cleared}
 use Rattle.setup.proofs.initial.clear.Given as goal
 
 abbrev pub invariant-loop-i : goal.invariant-loop-i

@@ -1,9 +1,8 @@
 -- Answers of `write_shard`.
-use Prim.Native.Nat.{◌-◌}
 use native.Mathlib.Omega.{arith}
 use mathlib.Core.Path.{◌≡◌}
 use lib.ListN.{length, length-set}
-use Rattle.setup.proofs.InitialParts.{zeros-length, Started, head_started, next_started, all_started}
+use Rattle.setup.proofs.InitialParts.{zeros-length, head_started, next_started, all_started}
 use borrow.Author.Rules.{rules}
 use Rattle.setup.proofs.initial.write_shard.Goals as goal
 

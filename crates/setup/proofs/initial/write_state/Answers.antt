@@ -2,7 +2,6 @@
 use Prim.Native.Nat.{ℕ}
 use mathlib.Core.Path.{ap, ◌∙◌}
 use lib.ListN.{replicate}
-use borrow.Author.Rules.{rules}
 use Rattle.setup.proofs.initial.write_state.Goals as goal
 
 pub write_shards-requires : goal.write_shards-requires

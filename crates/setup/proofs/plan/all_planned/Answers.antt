@@ -1,10 +1,6 @@
 -- Answers of `all_planned`.
-use Prim.Native.Nat.{◌≤◌, ◌-◌}
-use mathlib.Core.Path.{◌≡◌, refl, sym, ◌∙◌}
-use mathlib.Core.Bool.{true}
-use borrow.Author.Tests.{not-true, not-false}
+use mathlib.Core.Path.{refl, sym, ◌∙◌}
 use Rattle.model.specs.Tests.{all_below}
-use Rattle.model.specs.Setup.{is_planned_shard}
 use Rattle.model.proofs.Ranges.{more, fails, reached}
 use borrow.Author.Rules.{rules}
 use Rattle.setup.proofs.plan.all_planned.Goals as goal

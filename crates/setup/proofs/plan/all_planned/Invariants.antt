@@ -1,12 +1,9 @@
 -- `setup::plan::all_planned` meets its contract.
 use Prim.Native.Nat.{◌≤◌, ◌-◌}
-use mathlib.Core.Path.{◌≡◌, refl, sym, ◌∙◌}
+use mathlib.Core.Path.{◌≡◌}
 use mathlib.Core.Bool.{true}
-use borrow.Author.Tests.{not-true, not-false}
 use Rattle.model.specs.Tests.{all_below}
 use Rattle.model.specs.Setup.{is_planned_shard}
-use Rattle.model.proofs.Ranges.{more, fails, reached}
-use borrow.Author.Rules.{rules}
 use Rattle.setup.proofs.plan.all_planned.Given as goal
 
 abbrev pub invariant-loop-z : goal.invariant-loop-z

@@ -1,9 +1,8 @@
 -- `setup::plan::is_plan` meets its contract.
 use mathlib.Core.Path.{sym, ◌∙◌}
-use borrow.Author.Tests.{eq-eqb, ne_eqb, not-true, not-false}
+use borrow.Author.Tests.{eq-eqb, ne_eqb}
 use Rattle.model.specs.Setup.{is_plan}
 use Rattle.setup.proofs.InitialPlan.{sequencers_differ}
-use borrow.Author.Rules.{rules}
 use Rattle.setup.proofs.plan.is_plan.Goals as goal
 
 pub returns-then-plan-shards : goal.returns-then-plan-shards

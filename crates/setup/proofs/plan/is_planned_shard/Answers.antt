@@ -1,8 +1,6 @@
 -- `setup::plan::is_planned_shard` meets its contract.
 use mathlib.Core.Path.{sym, ◌∙◌}
-use borrow.Author.Tests.{not-true, not-false}
 use Rattle.model.specs.Setup.{is_planned_shard, plan_sequencer, plan_members, plan_orderer}
-use borrow.Author.Rules.{rules}
 use Rattle.setup.proofs.plan.is_planned_shard.Goals as goal
 
 pub returns-then-not-is_sequencer : goal.returns-then-not-is_sequencer

@@ -1,8 +1,5 @@
 -- Answers of `copy`.
-use Prim.Native.Nat.{◌-◌}
-use lib.ListN.{length}
-use borrow.Author.Rules.{rules}
-use Rattle.stable_entries.proofs.Copying.{Copying, start, turn, end}
+use Rattle.stable_entries.proofs.Copying.{start, turn, end}
 use Rattle.stable_entries.proofs.copy.copy.Goals as goal
 
 pub loop-i-init : goal.loop-i-init

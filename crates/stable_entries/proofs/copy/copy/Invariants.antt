@@ -1,8 +1,7 @@
 -- `stable_entries::copy::copy` meets its contract.
 use Prim.Native.Nat.{◌-◌}
 use lib.ListN.{length}
-use borrow.Author.Rules.{rules}
-use Rattle.stable_entries.proofs.Copying.{Copying, start, turn, end}
+use Rattle.stable_entries.proofs.Copying.{Copying}
 use Rattle.stable_entries.proofs.copy.copy.Given as goal
 
 abbrev pub invariant-loop-i : goal.invariant-loop-i

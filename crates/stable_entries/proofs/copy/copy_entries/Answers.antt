@@ -2,7 +2,6 @@
 use native.Mathlib.Omega.{arith}
 use mathlib.Core.Path.{◌∙◌}
 use Rattle.stable_entries.proofs.Listings.{copied, rejects_room, copies}
-use borrow.Author.Rules.{rules}
 use Rattle.stable_entries.proofs.copy.copy_entries.Goals as goal
 
 pub returns-then-out-count : goal.returns-then-out-count

@@ -1,8 +1,6 @@
 -- Answers of `longest`.
-use Prim.Native.Nat.{◌-◌}
 use native.Mathlib.Omega.{arith}
-use Rattle.stable_entries.proofs.Picking.{Picking, start, turn_longer, turn_other, end}
-use borrow.Author.Rules.{rules}
+use Rattle.stable_entries.proofs.Picking.{start, turn_longer, turn_other, end}
 use Rattle.stable_entries.proofs.pick.longest.Goals as goal
 use Rattle.stable_entries.proofs.pick.longest.Goals.{then-most-stable, else-most-stable}
 
@@ -14,8 +12,8 @@ loop-n-preserved c =
     let p = c.loop-n.invariant in
     let h = c.loop-n-test.true in
     elim c.if-most-stable.branch [
-      then-most-stable w ↦ rw (w.best-is, w.most-is) (turn_longer p h (omega (arith, w.if-most-stable.true)))
-    | else-most-stable w ↦ rw (w.best-is, w.most-is) (turn_other p h (omega (arith, w.if-most-stable.false)))
+      | then-most-stable w ↦ rw (w.best-is, w.most-is) (turn_longer p h (omega (arith, w.if-most-stable.true)))
+      | else-most-stable w ↦ rw (w.best-is, w.most-is) (turn_other p h (omega (arith, w.if-most-stable.false)))
     ]
 
 pub returns : goal.returns

@@ -1,9 +1,6 @@
 -- `stable_entries::pick::longest` meets its contract.
 use Prim.Native.Nat.{◌-◌}
-use native.Mathlib.Omega.{arith}
-use mathlib.Core.Logic.{⊎_elim}
-use Rattle.stable_entries.proofs.Picking.{Picking, start, turn_longer, turn_other, end}
-use borrow.Author.Rules.{rules}
+use Rattle.stable_entries.proofs.Picking.{Picking}
 use Rattle.stable_entries.proofs.pick.longest.Given as goal
 
 abbrev pub invariant-loop-n : goal.invariant-loop-n

@@ -1,5 +1,5 @@
 -- What the beginning and each turn of `replay_tally` do to `Tallying`, and that fewer turns are left after each.
-use Prim.Native.Nat.{ℕ, zero, suc, ◌-◌, ◌<◌, ◌^◌}
+use Prim.Native.Nat.{ℕ, suc, ◌-◌, ◌<◌, ◌^◌}
 use native.Mathlib.Omega.{arith}
 use mathlib.Core.Path.{◌≡◌, refl}
 use mathlib.Core.Bool.{Bool, true, false, cond}
@@ -30,12 +30,12 @@ fewer budget p p' on less = rw on (go p'.going refl)
 pub loop-p-init : goal.loop-p-init
 loop-p-init c =
     elim c.if-p.branch [
-      then-p w ↦
-        rw (w.tally-is, w.zero.ensures, c.begin-p.ensures.state_unchanged)
-        (begins_on c.args.state.now c.begin-p.ensures.value c.args.tally.now c.args.log.now c.args.budget w.if-p.true)
-    | else-p w ↦
-        rw (w.tally-is, c.begin-p.ensures.state_unchanged)
-        (begins_over c.args.state.now c.begin-p.ensures.value c.args.tally.now c.args.log.now c.args.budget w.if-p.false)
+      | then-p w ↦
+          rw (w.tally-is, w.zero.ensures, c.begin-p.ensures.state_unchanged)
+          (begins_on c.args.state.now c.begin-p.ensures.value c.args.tally.now c.args.log.now c.args.budget w.if-p.true)
+      | else-p w ↦
+          rw (w.tally-is, c.begin-p.ensures.state_unchanged)
+          (begins_over c.args.state.now c.begin-p.ensures.value c.args.tally.now c.args.log.now c.args.budget w.if-p.false)
     ]
 
 pub loop-p-preserved-then-p-le-NO_HOST : goal.loop-p-preserved-then-p-le-NO_HOST

@@ -1,7 +1,6 @@
 -- `tallies::turns::begin` meets its contract.
 use mathlib.Core.Path.{refl}
 use Rattle.tallies.proofs.Turning.{begun_over, begun_on}
-use borrow.Author.Rules.{rules}
 use Rattle.tallies.proofs.turns.begin.Goals as goal
 
 pub returns-then-early-ne0 : goal.returns-then-early-ne0

@@ -1,7 +1,6 @@
 -- `tallies::turns::tried_one` meets its contract.
 use borrow.Author.Tests.{eq-eqb, ne_eqb}
 use Rattle.tallies.specs.TallyTurns.{turn_tried}
-use borrow.Author.Rules.{rules}
 use Rattle.tallies.proofs.turns.tried_one.Goals as goal
 
 pub returns-then-answer-eq0 : goal.returns-then-answer-eq0

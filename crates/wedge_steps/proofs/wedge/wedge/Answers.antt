@@ -2,7 +2,6 @@
 use Rattle.types.specs.declared.kind.Kind.TheVariants.{Wedge}
 use Rattle.lookup.proofs.KindAnswers.{out_of_range_lem}
 use Rattle.wedge_steps.proofs.WedgeSteps.{known, named, nowhere, not_active, done}
-use borrow.Author.Rules.{rules}
 use Rattle.wedge_steps.proofs.wedge.wedge.Goals as goal
 
 pub are_numbers-requires : goal.are_numbers-requires

@@ -1,13 +1,9 @@
 -- `wellformed_configurations::configuration::all_configurations` meets its contract. The loop's invariant: the configurations before j are well-formed.
 use Prim.Native.Nat.{◌-◌, ◌≤◌}
-use native.Mathlib.Omega.{arith}
-use mathlib.Core.Path.{◌≡◌, refl, sym, ◌∙◌}
+use mathlib.Core.Path.{◌≡◌}
 use mathlib.Core.Bool.{true}
-use borrow.Author.Tests.{not-true, not-false}
 use Rattle.model.specs.Tests.{all_below}
 use Rattle.model.specs.WellFormed.{is_configuration_of}
-use Rattle.model.proofs.Ranges.{more, fails, reached}
-use Rattle.wellformed_configurations.proofs.Configurations.{few_before}
 use Rattle.wellformed_configurations.proofs.configuration.all_configurations.Given as goal
 
 abbrev pub invariant-loop-j : goal.invariant-loop-j

@@ -1,9 +1,6 @@
 -- `wellformed_configurations::configuration::all_parts` meets its contract.
-use native.Mathlib.Omega.{arith}
 use mathlib.Core.Path.{sym, ◌∙◌}
-use borrow.Author.Tests.{not-true, not-false}
 use Rattle.wellformed_configurations.proofs.Configurations.{wrong_replicas, right_replicas}
-use borrow.Author.Rules.{rules}
 use Rattle.wellformed_configurations.proofs.configuration.all_parts.Goals as goal
 
 pub returns-then-not-all_replicas : goal.returns-then-not-all_replicas

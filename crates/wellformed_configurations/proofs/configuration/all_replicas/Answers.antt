@@ -1,12 +1,10 @@
 -- Answers of `all_replicas`.
-use Prim.Native.Nat.{ℕ, ◌+◌, ◌*◌, ◌-◌, ◌≤◌}
+use Prim.Native.Nat.{ℕ, ◌+◌, ◌*◌, ◌≤◌}
 use native.Mathlib.Omega.{arith}
 use mathlib.Core.Path.{◌≡◌, refl, sym, ◌∙◌}
 use mathlib.Core.Bool.{true}
-use mathlib.Core.List.{List}
 use lib.ListN.{length, get_or}
-use borrow.Author.Rules.{rules}
-use borrow.Author.Tests.{not-true, not-false}
+use borrow.Author.Tests.{not-false}
 use Rattle.model.specs.Tests.{all_below}
 use Rattle.model.specs.Layout.{part}
 use Rattle.model.specs.WellFormed.{is_part}
@@ -88,14 +86,14 @@ loop-k-preserved c =
     let fits : (c.args.place + c.loop-k.k * 64) + 64 ≤ length c.args.state.now = omega arith in
     let from : ℕ = c.args.place + c.loop-k.k * 64 in
     let turn : Known c.args.state.now c.args.shards c.if-not-is_known.known c.if-not-is_known.known_end
-        × (true ≡ is_part c.args.shards c.args.j true (part c.args.state.now from)) =
-        elim c.if-not-is_known.branch [
-          then-not-is_known+else-not-each_entry w ↦
-            tested c.args.state.now _ _ from fits shape w.known-is w.known_end-is (sym (not-false _ w.if-not-each_entry.false-raw) ∙ w.each_entry.ensures)
-        | else-not-is_known w ↦
-            held c.args.state.now _ _ from fits shape w.known-is w.known_end-is c.loop-k.invariant.1
-            (sym (not-false _ w.if-not-is_known.false-raw) ∙ c.is_known.ensures)
-        ] in
+    × (true ≡ is_part c.args.shards c.args.j true (part c.args.state.now from)) =
+    elim c.if-not-is_known.branch [
+      | then-not-is_known+else-not-each_entry w ↦
+          tested c.args.state.now _ _ from fits shape w.known-is w.known_end-is (sym (not-false _ w.if-not-each_entry.false-raw) ∙ w.each_entry.ensures)
+      | else-not-is_known w ↦
+          held c.args.state.now _ _ from fits shape w.known-is w.known_end-is c.loop-k.invariant.1
+          (sym (not-false _ w.if-not-is_known.false-raw) ∙ c.is_known.ensures)
+    ] in
     let at = c.loop-k in
     let t = turn in
     (next, t.0, more at.k _ at.invariant.2 t.1)

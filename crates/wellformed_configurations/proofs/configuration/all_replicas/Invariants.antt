@@ -1,19 +1,12 @@
 -- `wellformed_configurations::configuration::all_replicas` meets its contract. The loop's invariant: the replicas before k are well-formed, and
 -- the known history is proper.
-use Prim.Native.Nat.{ℕ, ◌+◌, ◌*◌, ◌-◌, ◌≤◌}
-use native.Mathlib.Omega.{arith}
-use mathlib.Core.Path.{◌≡◌, refl, sym, ◌∙◌}
-use mathlib.Core.Logic.{⊎_elim}
+use Prim.Native.Nat.{◌+◌, ◌*◌, ◌-◌, ◌≤◌}
+use mathlib.Core.Path.{◌≡◌}
 use mathlib.Core.Bool.{true}
-use mathlib.Core.List.{List}
-use lib.ListN.{length, get_or}
-use borrow.Author.Rules.{rules}
-use borrow.Author.Tests.{not-true, not-false}
 use Rattle.model.specs.Tests.{all_below}
 use Rattle.model.specs.Layout.{part}
 use Rattle.model.specs.WellFormed.{is_part}
-use Rattle.model.proofs.Ranges.{more, fails, reached}
-use Rattle.wellformed_configurations.proofs.KnownEntries.{Known, none_known, has_shape, misshapen, few_entries, by_entries, tested, held}
+use Rattle.wellformed_configurations.proofs.KnownEntries.{Known}
 use Rattle.wellformed_configurations.proofs.configuration.all_replicas.Given as goal
 
 abbrev pub invariant-loop-k : goal.invariant-loop-k

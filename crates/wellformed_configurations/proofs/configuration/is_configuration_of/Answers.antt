@@ -2,7 +2,6 @@
 use native.Mathlib.Nat.{add-sub_cancel_left}
 use native.Mathlib.Omega.{arith}
 use mathlib.Core.Path.{sym, ◌∙◌}
-use borrow.Author.Tests.{not-true, not-false}
 use Rattle.wellformed_configurations.proofs.Configurations.{improper, wrong_parts, proper_parts, proper_few, some_members, some_orderer, no_members}
 use Rattle.wellformed_configurations.proofs.configuration.is_configuration_of.Goals as goal
 

@@ -1,16 +1,10 @@
 -- `wellformed_replicas::replica::begins` meets its contract. The loop's invariant: what differs, joined, is 0 where each word is the other.
 use Prim.Native.Nat.{◌-◌, ◌≤◌}
-use native.Mathlib.Omega.{arith}
-use mathlib.Core.Path.{◌≡◌, refl, sym, ◌∙◌}
+use mathlib.Core.Path.{◌≡◌}
 use lib.Bits.{bit_xor}
 use lib.Dec.{eqb}
 use lib.ListN.{length, get_or}
-use borrow.Author.Tests.{le-leb, lt-leb, ne_eqb}
 use Rattle.model.specs.Tests.{all_below}
-use Rattle.model.proofs.Ranges.{fails, reached, alike}
-use Rattle.model.proofs.Joined.{xor_zero}
-use Rattle.wellformed_replicas.specs.Shapes.{are_first_of}
-use Rattle.wellformed_entries.proofs.Zeros.{joined_more}
 use Rattle.wellformed_replicas.proofs.replica.begins.Given as goal
 
 abbrev pub invariant-loop-i : goal.invariant-loop-i

@@ -1,5 +1,4 @@
 -- `wellformed_replicas::replica::is_known` meets its contract.
-use borrow.Author.Rules.{rules}
 use borrow.Author.Tests.{ne_eqb}
 use Rattle.wellformed_replicas.specs.Shapes.{is_known}
 use Rattle.wellformed_replicas.proofs.replica.is_known.Goals as goal

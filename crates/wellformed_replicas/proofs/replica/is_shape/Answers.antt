@@ -4,14 +4,12 @@ use native.Mathlib.Omega.{arith}
 use mathlib.Core.Path.{sym, ap, ◌∙◌}
 use mathlib.Core.Bool.{false≢true}
 use lib.ListN.{get_or}
-use borrow.Author.Tests.{not-true, not-false}
 use Rattle.model.proofs.Tests.{both}
 use Rattle.model.proofs.Ranges.{not_passed}
 use Rattle.wellformed_entries.specs.Zeros.{zeros}
 use Rattle.wellformed_entries.proofs.Zeros.{to_end}
 use Rattle.wellformed_replicas.proofs.ReplicaWords.{waits_test, test_waits}
 use Rattle.wellformed_replicas.proofs.Shapes.{shaped, decides, no_entries}
-use borrow.Author.Rules.{rules}
 use Rattle.wellformed_replicas.proofs.replica.is_shape.Goals as goal
 
 pub returns-then-mode-lt1 : goal.returns-then-mode-lt1
