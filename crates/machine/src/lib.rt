@@ -1,6 +1,7 @@
 // A step: the machine over a borrowed state of 64-bit words.
 
 #![tactic(auto)]
+
 ghost use Rattle.std.specs.Prelude.{◌≡◌, length};
 ghost use Rattle.model.specs.Layout.{shards_of};
 ghost use Rattle.model.specs.Steps.{rejection, after};

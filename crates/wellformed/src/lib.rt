@@ -1,6 +1,7 @@
 // The whole check of a state: its length, and then well-formedness, shard by shard.
 
 #![tactic(auto)]
+
 ghost use Rattle.std.specs.Prelude.{◌≡◌};
 ghost use Rattle.model.specs.Layout.{shards_of};
 ghost use Rattle.model.specs.WellFormed.{well_formed};

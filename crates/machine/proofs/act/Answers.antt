@@ -11,7 +11,6 @@ use Rattle.install_steps.proofs.InstallSteps as install-steps
 use Rattle.inherit_steps.proofs.InheritSteps.{inheriting}
 use Rattle.inherit_steps.proofs.CatchUpSteps.{catching_up}
 use Rattle.machine.proofs.ByKind.{least, ready, by_numbers, orders, by_host, kept_for_later, no_kind}
-use borrow.Author.Rules.{rules}
 use Rattle.machine.proofs.act.Goals as goal
 
 pub overflow_sub-j : goal.overflow_sub-j

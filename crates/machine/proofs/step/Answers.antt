@@ -1,6 +1,5 @@
 -- `machine::step` meets its contract.
 use Rattle.machine.proofs.Ladders.{rejects_length}
-use borrow.Author.Rules.{rules}
 use Rattle.machine.proofs.step.Goals as goal
 
 pub returns-then-shards-eq0 : goal.returns-then-shards-eq0

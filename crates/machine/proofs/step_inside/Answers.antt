@@ -2,7 +2,6 @@
 use mathlib.Core.Path.{sym, ◌∙◌}
 use Rattle.machine.proofs.Ladders.{rejects_early}
 use Rattle.machine.proofs.ByKind.{has_shards}
-use borrow.Author.Rules.{rules}
 use Rattle.machine.proofs.step_inside.Goals as goal
 
 pub returns-then-early-ne0 : goal.returns-then-early-ne0

@@ -1,10 +1,8 @@
 -- `machine::step_on` meets its contract.
 use mathlib.Core.Path.{sym, ◌∙◌}
-use borrow.Author.Tests.{not-false}
 use Rattle.step_numbers.proofs.StepRanges.{known}
 use Rattle.lookup.proofs.Formed.{formed_of}
 use Rattle.machine.proofs.Ladders.{rejects_early, rejects_numbers, rejects_form}
-use borrow.Author.Rules.{rules}
 use Rattle.machine.proofs.step_on.Goals as goal
 
 pub returns-then-early-ne0 : goal.returns-then-early-ne0

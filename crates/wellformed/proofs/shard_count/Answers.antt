@@ -1,10 +1,9 @@
 -- `wellformed::shard_count` meets its contract: at most one of the seven numbers added is not 0.
-use Prim.Native.Nat.{ℕ, ◌+◌, ◌≤◌}
+use Prim.Native.Nat.{ℕ, ◌≤◌}
 use native.Mathlib.Omega.{arith}
 use mathlib.Core.Path.{◌≡◌}
 use Rattle.wellformed.specs.SevenLengths.{chosen}
 use Rattle.wellformed.proofs.SevenLengths.{chosen_most, seven_in_a_row}
-use borrow.Author.Rules.{rules}
 use Rattle.wellformed.proofs.shard_count.Goals as goal
 
 -- a number that is added

@@ -1,6 +1,6 @@
 -- `wellformed::state_rejection` meets its contract: first 1, then 9.
 use mathlib.Core.Path.{sym, ◌∙◌}
-use borrow.Author.Tests.{le-leb, not-true, not-false}
+use borrow.Author.Tests.{le-leb}
 use Rattle.model.specs.Checks.{first_of}
 use Rattle.model.specs.Layout.{is_state_length}
 use Rattle.model.specs.Replay.{replay_rejection}

@@ -1,6 +1,5 @@
 -- `wellformed::well_formed` meets its contract, by those of the functions it calls. The shards of a length fit it.
 use mathlib.Core.Path.{sym, ◌∙◌}
-use borrow.Author.Tests.{not-true, not-false}
 use Rattle.model.specs.WellFormed.{well_formed}
 use Rattle.model.proofs.Lengths.{shards_fit}
 use Rattle.wellformed.proofs.SpacedSequencers.{sequencers_spaced, sequencers_differ}

@@ -3,7 +3,6 @@ use mathlib.Core.Path.{◌∙◌}
 use Rattle.histories.specs.History.{listing}
 use Rattle.word_outputs.specs.ListOutputs.{history_answer, entries_after, entry_count_after}
 use Rattle.capi.proofs.Counts.{no_word, counted, listing_word_lem}
-use borrow.Author.Rules.{rules}
 use Rattle.capi.proofs.lists.penkwadar_stable_history.Goals as goal
 
 pub returns-then-count-lt1 : goal.returns-then-count-lt1

@@ -4,7 +4,6 @@ use mathlib.Core.Path.{ap, ◌∙◌}
 use Rattle.tallies.specs.declared.tally.Tally.{Tally}
 use Rattle.tallies.specs.Tally.{tally_after}
 use Rattle.capi.proofs.TallyOutputs.{after_long, no_report, no_tally, replays_tally}
-use borrow.Author.Rules.{rules}
 use Rattle.capi.proofs.replay_tallies.penkwadar_replay_tally.Goals as goal
 
 pub returns-then-report-lt4 : goal.returns-then-report-lt4

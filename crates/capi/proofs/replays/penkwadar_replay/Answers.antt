@@ -1,7 +1,6 @@
 -- `capi::replays::penkwadar_replay` meets its contract.
 use native.Mathlib.Omega.{arith}
 use Rattle.capi.proofs.Reports.{short, told}
-use borrow.Author.Rules.{rules}
 use Rattle.capi.proofs.replays.penkwadar_replay.Goals as goal
 
 pub returns-then-report-lt4 : goal.returns-then-report-lt4

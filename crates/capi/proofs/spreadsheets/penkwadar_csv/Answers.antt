@@ -1,7 +1,6 @@
 -- `capi::spreadsheets::penkwadar_csv` meets its contract.
 use mathlib.Core.Path.{◌∙◌}
 use lib.ListN.{length}
-use borrow.Author.Rules.{rules}
 use Rattle.csv_rows.specs.Csv.{csv, csv_rejection, csv_writing}
 use Rattle.word_outputs.specs.Spreadsheets.{csv_answer, csv_after, csv_length_after}
 use Rattle.capi.proofs.Counts.{no_word, counted, writing_word_lem}

@@ -1,6 +1,5 @@
 -- `capi::state::penkwadar_state_words` meets its contract.
 use borrow.Author.Tests.{le-leb, lt-leb}
-use borrow.Author.Rules.{rules}
 use Rattle.word_outputs.specs.State.{state_words}
 use Rattle.capi.proofs.state.penkwadar_state_words.Goals as goal
 

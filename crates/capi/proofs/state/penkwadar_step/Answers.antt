@@ -1,5 +1,4 @@
 -- `capi::state::penkwadar_step` meets its contract, that of `machine::step`.
-use borrow.Author.Rules.{rules}
 use Rattle.model.specs.Log.{step_of}
 use Rattle.capi.proofs.state.penkwadar_step.Goals as goal
 

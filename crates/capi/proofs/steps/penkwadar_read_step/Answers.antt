@@ -14,7 +14,6 @@ use Rattle.quick_reader.proofs.ShortSteps.{short_read}
 use Rattle.log_reader.proofs.StepParts.{step_none, step_from, step_inside}
 use Rattle.word_outputs.specs.WordOutputs.{step_words}
 use Rattle.capi.proofs.StepWords.{read_short, read, read_told, read_rejected}
-use borrow.Author.Rules.{rules}
 use Rattle.capi.proofs.steps.penkwadar_read_step.Goals as goal
 
 pub returns-then-step-lt6 : goal.returns-then-step-lt6

@@ -6,7 +6,6 @@ use Rattle.model.specs.Log.{step_of}
 use Rattle.model.specs.Writer.{step_bytes, write_rejection, writing}
 use Rattle.word_outputs.specs.StepOutputs.{write_answer, out_after, byte_count_after}
 use Rattle.capi.proofs.Counts.{no_word, counted, writing_word_lem}
-use borrow.Author.Rules.{rules}
 use Rattle.capi.proofs.steps.penkwadar_write_step.Goals as goal
 
 pub returns-then-count-lt1 : goal.returns-then-count-lt1

@@ -4,7 +4,6 @@ use Prim.Native.Nat.{◌-◌}
 use mathlib.Core.Path.{◌≡◌, refl}
 use lib.ListN.{length-take}
 use Rattle.capi.proofs.TraceOutputs.{few, within, no_count_lem, no_room, rejects, done}
-use borrow.Author.Rules.{rules}
 use Rattle.capi.proofs.traces.penkwadar_trace.Goals as goal
 
 pub returns-then-count-lt1 : goal.returns-then-count-lt1

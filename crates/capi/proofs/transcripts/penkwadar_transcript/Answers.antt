@@ -5,7 +5,6 @@ use Rattle.model.specs.Transcript.{transcript}
 use Rattle.transcript.specs.Text.{text_rejection, text_writing}
 use Rattle.word_outputs.specs.Transcripts.{text_answer, text_after, length_after}
 use Rattle.capi.proofs.Counts.{no_word, counted, writing_word_lem}
-use borrow.Author.Rules.{rules}
 use Rattle.capi.proofs.transcripts.penkwadar_transcript.Goals as goal
 
 pub returns-then-count-lt1 : goal.returns-then-count-lt1

@@ -1,10 +1,8 @@
 -- `histories::history::stable_history` meets its contract.
 use native.Mathlib.Omega.{arith}
 use mathlib.Core.Path.{sym, ◌∙◌}
-use borrow.Author.Tests.{not-true, not-false}
 use Rattle.stable_entries.proofs.Longest.{picked}
 use Rattle.histories.proofs.StableHistories.{of_shard, answers, rejects_length, rejects_shard, rejects_form, lists}
-use borrow.Author.Rules.{rules}
 use Rattle.histories.proofs.history.stable_history.Goals as goal
 
 pub returns-then-shards-eq0 : goal.returns-then-shards-eq0
@@ -36,14 +34,14 @@ pub copy_entries-requires : goal.copy_entries-requires
 copy_entries-requires c =
     let a = c.args in
     let r = of_shard a.state.now a.shard (λ q. c.if-shards-eq0.false (c.shard_count-shards.ensures ∙ q)) (omega (arith, c.shard_count-shards.ensures))
-            (sym c.well_formed-2.ensures ∙ c.if-not-well_formed.false) in
+    (sym c.well_formed-2.ensures ∙ c.if-not-well_formed.false) in
     picked r c.longest-place.ensures
 
 pub returns : goal.returns
 returns c =
     let a = c.args in
     let r = of_shard a.state.now a.shard (λ q. c.if-shards-eq0.false (c.shard_count-shards.ensures ∙ q)) (omega (arith, c.shard_count-shards.ensures))
-            (sym c.well_formed-2.ensures ∙ c.if-not-well_formed.false) in
+    (sym c.well_formed-2.ensures ∙ c.if-not-well_formed.false) in
     let e = lists a.state.now a.shard a.out.now r c.longest-place.ensures in
     let t = answers a.state.now a.shard a.out.now (c.copy_entries.ensures.value ∙ e.0) (c.copy_entries.ensures.out_after ∙ e.1) in
     record { result_value = t.0; result_value_2 = t.1.0; value = t.1.1.0; out_after = t.1.1.1 }

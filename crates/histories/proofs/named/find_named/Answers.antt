@@ -3,10 +3,8 @@ use Prim.Native.Nat.{ℕ}
 use native.Mathlib.Omega.{arith}
 use mathlib.Core.Path.{◌≡◌, sym, ap, ◌∙◌}
 use mathlib.Core.Bool.{Bool}
-use borrow.Author.Tests.{not-true, not-false}
 use Rattle.histories.specs.NamedReplicas.{is_replica_name}
 use Rattle.histories.proofs.NamedReplicas.{named, nowhere_as, no_length, no_name, no_form, ready_host, found_as}
-use borrow.Author.Rules.{rules}
 use Rattle.histories.proofs.named.find_named.Goals as goal
 
 -- the test of the name, by the number of shards that was found

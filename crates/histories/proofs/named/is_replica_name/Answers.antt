@@ -1,9 +1,7 @@
 -- `histories::named::is_replica_name` meets its contract.
 use mathlib.Core.Path.{sym, ◌∙◌}
-use borrow.Author.Tests.{not-true, not-false}
 use Rattle.types.specs.Members.{is_host}
 use Rattle.histories.specs.NamedReplicas.{is_replica_name}
-use borrow.Author.Rules.{rules}
 use Rattle.histories.proofs.named.is_replica_name.Goals as goal
 
 pub returns-then-not-is_index_of : goal.returns-then-not-is_index_of

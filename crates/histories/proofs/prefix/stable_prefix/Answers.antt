@@ -1,7 +1,6 @@
 -- `histories::prefix::stable_prefix` meets its contract.
 use mathlib.Core.Path.{◌∙◌}
 use Rattle.histories.proofs.StablePrefixes.{answers, rejects_named, placed, shows}
-use borrow.Author.Rules.{rules}
 use Rattle.histories.proofs.prefix.stable_prefix.Goals as goal
 
 pub returns-then-found-ne0 : goal.returns-then-found-ne0

@@ -1,7 +1,7 @@
 -- Answers of `sources`.
 use native.Mathlib.Omega.{arith}
 use Rattle.lookup.proofs.FoundReplicas.{small_place}
-use Rattle.histories.proofs.Traces.{Walked, walk_start, walk_at, walk_more, walk_end, place_within, origin_least, host_read}
+use Rattle.histories.proofs.Traces.{walk_start, walk_at, walk_more, walk_end, place_within, origin_least, host_read}
 use Rattle.histories.proofs.trace.sources.Goals as goal
 
 pub loop-i-init : goal.loop-i-init

@@ -1,7 +1,6 @@
 -- `histories::trace::trace` meets its contract, by the laws of its tests in turn.
 use native.Mathlib.Omega.{arith}
 use Rattle.histories.proofs.TraceAnswers.{rejected, fits, least, waits, starts, lists}
-use borrow.Author.Rules.{rules}
 use Rattle.histories.proofs.trace.trace.Goals as goal
 
 pub returns-then-found-ne0 : goal.returns-then-found-ne0

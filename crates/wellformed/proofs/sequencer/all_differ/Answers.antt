@@ -1,11 +1,6 @@
 -- Answers of `all_differ`.
-use Prim.Native.Nat.{◌*◌, ◌≤◌, ◌-◌}
 use native.Mathlib.Omega.{arith}
-use mathlib.Core.Path.{◌≡◌, refl, sym, ◌∙◌}
-use mathlib.Core.Bool.{true, not}
-use lib.Dec.{eqb}
-use lib.ListN.{get_or}
-use borrow.Author.Tests.{not-true, not-false}
+use mathlib.Core.Path.{refl, sym, ◌∙◌}
 use Rattle.model.specs.Tests.{all_below}
 use Rattle.model.specs.WellFormed.{all_differ}
 use Rattle.model.proofs.Ranges.{more, fails, reached}

@@ -1,15 +1,10 @@
 -- `wellformed::sequencer::all_differ` meets its contract.
 use Prim.Native.Nat.{◌*◌, ◌≤◌, ◌-◌}
-use native.Mathlib.Omega.{arith}
-use mathlib.Core.Path.{◌≡◌, refl, sym, ◌∙◌}
+use mathlib.Core.Path.{◌≡◌}
 use mathlib.Core.Bool.{true, not}
 use lib.Dec.{eqb}
 use lib.ListN.{get_or}
-use borrow.Author.Tests.{not-true, not-false}
 use Rattle.model.specs.Tests.{all_below}
-use Rattle.model.specs.WellFormed.{all_differ}
-use Rattle.model.proofs.Ranges.{more, fails, reached}
-use borrow.Author.Rules.{rules}
 use Rattle.wellformed.proofs.sequencer.all_differ.Given as goal
 
 abbrev pub invariant-loop-a : goal.invariant-loop-a

@@ -1,11 +1,7 @@
 -- Answers of `all_shards`.
-use Prim.Native.Nat.{◌-◌, ◌≤◌}
 use native.Mathlib.Omega.{arith}
-use mathlib.Core.Path.{◌≡◌, refl, sym, ◌∙◌}
-use mathlib.Core.Bool.{true}
-use borrow.Author.Tests.{not-true, not-false}
+use mathlib.Core.Path.{refl, sym, ◌∙◌}
 use Rattle.model.specs.Tests.{all_below}
-use Rattle.model.specs.WellFormed.{is_shard}
 use Rattle.model.proofs.Ranges.{more, fails, reached}
 use Rattle.wellformed.proofs.shard.all_shards.Goals as goal
 

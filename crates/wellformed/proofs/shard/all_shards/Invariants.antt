@@ -1,12 +1,9 @@
 -- `wellformed::shard::all_shards` meets its contract. The loop's invariant: the shards before z are well-formed.
 use Prim.Native.Nat.{◌-◌, ◌≤◌}
-use native.Mathlib.Omega.{arith}
-use mathlib.Core.Path.{◌≡◌, refl, sym, ◌∙◌}
+use mathlib.Core.Path.{◌≡◌}
 use mathlib.Core.Bool.{true}
-use borrow.Author.Tests.{not-true, not-false}
 use Rattle.model.specs.Tests.{all_below}
 use Rattle.model.specs.WellFormed.{is_shard}
-use Rattle.model.proofs.Ranges.{more, fails, reached}
 use Rattle.wellformed.proofs.shard.all_shards.Given as goal
 
 abbrev pub invariant-loop-z : goal.invariant-loop-z

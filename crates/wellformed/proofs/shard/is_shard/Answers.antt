@@ -1,9 +1,6 @@
 -- `wellformed::shard::is_shard` meets its contract, by the laws of a shard's words.
 use native.Mathlib.Nat.{add-sub_cancel_left}
 use mathlib.Core.Path.{sym, ◌∙◌}
-use native.Mathlib.Omega.{arith}
-use borrow.Author.Rules.{rules}
-use borrow.Author.Tests.{not-true, not-false}
 use Rattle.wellformed.proofs.Shards.{wrong_sequencer, too_few, too_many, some_rest, only_configurations}
 use Rattle.wellformed.proofs.shard.is_shard.Goals as goal
 

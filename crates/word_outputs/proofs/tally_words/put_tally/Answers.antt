@@ -1,6 +1,5 @@
 -- `word_outputs::tally_words::put_tally` meets its contract.
 use Rattle.word_outputs.proofs.TallyWords.{stored}
-use borrow.Author.Rules.{rules}
 use Rattle.word_outputs.proofs.tally_words.put_tally.Goals as goal
 
 pub returns : goal.returns

@@ -2,7 +2,6 @@
 use lib.ListN.{get_or}
 use Rattle.word_outputs.specs.TallyWords.{tally_in}
 use Rattle.word_outputs.proofs.TallyWords.{copied}
-use borrow.Author.Rules.{rules}
 use Rattle.word_outputs.proofs.tally_words.tally_in.Goals as goal
 
 pub returns : goal.returns

@@ -2,7 +2,6 @@
 use native.Mathlib.Omega.{arith}
 use Rattle.quick_reader.proofs.ShortSteps.{short_fits, short_length_most}
 use Rattle.word_outputs.specs.WordOutputs.{step_words}
-use borrow.Author.Rules.{rules}
 use Rattle.word_outputs.proofs.usual.put_short.Goals as goal
 
 pub overflow_add-next : goal.overflow_add-next

@@ -1,7 +1,6 @@
 -- `word_outputs::words::put_listing` meets its contract.
 use Rattle.stable_entries.specs.Listing.{listing_number}
 use Rattle.word_outputs.specs.WordOutputs.{listing_word}
-use borrow.Author.Rules.{rules}
 use Rattle.word_outputs.proofs.words.put_listing.Goals as goal
 
 pub returns-in-Entries : goal.returns-in-Entries

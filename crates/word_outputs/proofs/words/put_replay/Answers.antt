@@ -1,7 +1,6 @@
 -- `word_outputs::words::put_replay` meets its contract.
 use Rattle.model.specs.Results.{stop_number, stop_code}
 use Rattle.word_outputs.specs.WordOutputs.{words_by, reported_words}
-use borrow.Author.Rules.{rules}
 use Rattle.word_outputs.proofs.words.put_replay.Goals as goal
 
 pub returns-in-Ended : goal.returns-in-Ended

@@ -1,7 +1,6 @@
 -- `word_outputs::words::put_writing` meets its contract.
 use Rattle.model.specs.Results.{writing_number}
 use Rattle.word_outputs.specs.WordOutputs.{writing_word}
-use borrow.Author.Rules.{rules}
 use Rattle.word_outputs.proofs.words.put_writing.Goals as goal
 
 pub returns-in-Bytes : goal.returns-in-Bytes
