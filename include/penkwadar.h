@@ -21,7 +21,7 @@
  * Buffers of one call do not overlap. Nothing else is asked: any words, any bytes, any numbers. A buffer may be longer
  * than what is written; the rest of it stays as it was.
  *
- * WHAT IT NEEDS. The archive is for x86-64 with the System V calling convention, as `rt staticlib` builds it; of the
+ * WHAT IT NEEDS. The archive is for x86-64 with the System V calling convention, as `rt lib` builds it; of the
  * processor it uses SSE2 and nothing later, and of the stack also the convention's red zone. It calls memcpy, memmove
  * and memset, which a program without a C library has to supply, and nothing else. It has no data of its own: any
  * threads may call it at the same time on distinct buffers. None of its instructions divides.
