@@ -92,7 +92,7 @@ marked =
     (0 ∷ 0 ∷ 0 ∷ 0 ∷ 0 ∷ 13 ∷ [])
     -- "Bytes `04 01 02 05` are wedge 1, 2, 5"
     ∷ reads (4 ∷ 1 ∷ 2 ∷ 5 ∷ []) (Read (wedge 1 2 5) 4)
-    -- "`01 00 01 Ac 02` adds take 300"
+    -- "`01 00 01 AC 02` adds take 300"
     ∷ reads (1 ∷ 0 ∷ 1 ∷ 172 ∷ 2 ∷ []) (Read (add 0 1 300) 5)
     ∷ answers (add 0 1 300 ∷ []) (0 ∷ [])
     -- "`80 00` is 6, `80` is 5"
