@@ -1,5 +1,6 @@
 -- An adopt, by the words that the code looks at: what it answers and leaves.
 -- Assumes nothing.
+use Rattle.std.specs.Prelude.{Ok}
 use Prim.Native.Nat.{ℕ, ◌+◌, min, max}
 use native.Mathlib.Omega.{arith}
 use mathlib.Core.Path.{◌≡◌, refl, sym, ap, ◌∙◌}
@@ -30,21 +31,21 @@ use Rattle.lookup.proofs.Orderers.{orderer_at, orderer_replica_lem}
 use Rattle.lookup.proofs.KindAnswers.{rejects, accepts, ready_host}
 use Rattle.copying.specs.Copies.{copied}
 
-pub known : Known Adopt
+pub known : Known (Ok Adopt)
 unfolding is_kept is_unknown
 known = record { not_kept = refl; known = refl }
 
 -- the numbers were tested, and are in range
-module _ {w : List ℕ} {n z j : ℕ} (p : ReadyKind w n z j) (h d : ℕ) {b : Bool} (test : b ≡ are_numbers Adopt n h d) (e : not b ≡ false) where
+module _ {w : List ℕ} {n z j : ℕ} (p : ReadyKind w n z j) (h d : ℕ) {b : Bool} (test : b ≡ are_numbers (Ok Adopt) n h d) (e : not b ≡ false) where
   pub named : ReadyHost w z j h
   unfolding names_host
-  named = ready_host Adopt p h d test e known refl
+  named = ready_host (Ok Adopt) p h d test e known refl
 
   -- r is the replica that was found
   module _ {r : Found} (s : r ≡ found_of w z j h) where
-    pub nowhere : (r.answer ≡ 0 → ⊥) → (r.answer ≡ kind_answer Adopt w z j h d) × (w ≡ kind_after Adopt w z j h d)
+    pub nowhere : (r.answer ≡ 0 → ⊥) → (r.answer ≡ kind_answer (Ok Adopt) w z j h d) × (w ≡ kind_after (Ok Adopt) w z j h d)
     unfolding kind_checks adopt_checks
-    nowhere m = rejects Adopt p h d test e (early w z j h r s _ m) m
+    nowhere m = rejects (Ok Adopt) p h d test e (early w z j h r s _ m) m
 
     module _ (a : r.answer ≡ 0) where
       at : At w z j h r.place
@@ -59,15 +60,15 @@ module _ {w : List ℕ} {n z j : ℕ} (p : ReadyKind w n z j) (h d : ℕ) {b : B
         unfolding configuration
         orderer_test = ap (λ (x : Configuration). eqb h x.orderer) (sym c)
 
-        pub is_orderer : h ≡ k.orderer → (14 ≡ kind_answer Adopt w z j h d) × (w ≡ kind_after Adopt w z j h d)
+        pub is_orderer : h ≡ k.orderer → (14 ≡ kind_answer (Ok Adopt) w z j h d) × (w ≡ kind_after (Ok Adopt) w z j h d)
         unfolding kind_checks adopt_checks first_of
-        is_orderer q = rejects Adopt p h d test e (rw (at.there, at.member, orderer_test, eq-eqb _ _ q)) (λ o. omega arith)
+        is_orderer q = rejects (Ok Adopt) p h d test e (rw (at.there, at.member, orderer_test, eq-eqb _ _ q)) (λ o. omega arith)
 
         module _ (other : h ≡ k.orderer → ⊥) where
-          pub not_active : (get_or w r.place 0 ≡ 2 → ⊥) → (12 ≡ kind_answer Adopt w z j h d) × (w ≡ kind_after Adopt w z j h d)
+          pub not_active : (get_or w r.place 0 ≡ 2 → ⊥) → (12 ≡ kind_answer (Ok Adopt) w z j h d) × (w ≡ kind_after (Ok Adopt) w z j h d)
           unfolding kind_checks adopt_checks first_of
           not_active m =
-              rejects Adopt p h d test e
+              rejects (Ok Adopt) p h d test e
               (rw (at.there, at.member, orderer_test, ne_eqb _ _ other, at.replica_is, active_word w r.place, ne_eqb _ _ m))
               (λ o. omega arith)
 
@@ -86,16 +87,16 @@ module _ {w : List ℕ} {n z j : ℕ} (p : ReadyKind w n z j) (h d : ℕ) {b : B
                 rw (at.there, at.member, orderer_test, ne_eqb _ _ other, at.replica_is, active_word w r.place, eq-eqb _ _ active)
                 (rw (orderer_is, pending_word w o))
 
-            pub orderer-pending : get_or w o 0 ≡ 1 → (13 ≡ kind_answer Adopt w z j h d) × (w ≡ kind_after Adopt w z j h d)
+            pub orderer-pending : get_or w o 0 ≡ 1 → (13 ≡ kind_answer (Ok Adopt) w z j h d) × (w ≡ kind_after (Ok Adopt) w z j h d)
             unfolding kind_checks
-            orderer-pending m = rejects Adopt p h d test e (rw (eq-eqb _ _ m) at last) (λ o. omega arith)
+            orderer-pending m = rejects (Ok Adopt) p h d test e (rw (eq-eqb _ _ m) at last) (λ o. omega arith)
 
             pub done : (get_or w o 0 ≡ 1 → ⊥) → {l m : ℕ} → l ≡ max (get_or w (r.place + 2) 0) (get_or w (o + 2) 0) → m ≡ min l (get_or w (o + 1) 0)
                 → {v : List ℕ} → v ≡ put_replica w r.place (copied 2 m (get_or w (r.place + 3) 0) (replica_at w o))
-                → (0 ≡ kind_answer Adopt w z j h d) × (v ≡ kind_after Adopt w z j h d)
+                → (0 ≡ kind_answer (Ok Adopt) w z j h d) × (v ≡ kind_after (Ok Adopt) w z j h d)
             unfolding kind_checks kind_effect adopt_effect adopted
             done g {l} {m} el em f =
-                accepts Adopt p h d test e (rw (ne_eqb _ _ g) at last)
+                accepts (Ok Adopt) p h d test e (rw (ne_eqb _ _ g) at last)
                 (f
                 ∙ rw (
                   at.place_is,

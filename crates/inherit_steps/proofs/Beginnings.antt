@@ -7,9 +7,8 @@ use mathlib.Core.Bool.{Bool, true, false, cond, not}
 use mathlib.Core.List.{List, [], ◌∷◌}
 use lib.ListN.{get_or}
 use borrow.Author.Tests.{eq-eqb, ne_eqb}
-use Rattle.types.specs.declared.kind.Kind.{Kind}
 use Rattle.model.specs.Checks.{first_of, ◌or_else◌}
-use Rattle.types.specs.Kinds.{names_host}
+use Rattle.types.specs.Kinds.{NamedKind, names_host}
 use Rattle.types.specs.Rules.{Known, most_fourth}
 use Rattle.types.specs.Members.{has_member}
 use Rattle.model.specs.Replicas.{is_pending}
@@ -27,7 +26,7 @@ use Rattle.lookup.proofs.FoundReplicas.{At, at_found, early}
 use Rattle.lookup.proofs.KindAnswers.{rejects, accepts, fourth_small, ready_host}
 
 -- a kind k whose checks are those of inherit, with the test `other` of the replica to begin from
-pub record Beginning (k : Kind) (other : List ℕ → ℕ → ℕ → ℕ → Bool) : Type 0 where
+pub record Beginning (k : NamedKind) (other : List ℕ → ℕ → ℕ → ℕ → Bool) : Type 0 where
   pub known : Known k
   pub acting : names_host k ≡ true
   pub fourth : most_fourth k ≡ 15
@@ -40,7 +39,7 @@ pub record Beginning (k : Kind) (other : List ℕ → ℕ → ℕ → ℕ → Bo
       ∷ []
 
 -- the numbers were tested, and are in range
-module _ {k : Kind} {other : List ℕ → ℕ → ℕ → ℕ → Bool} (i : Beginning k other) {w : List ℕ} {n z j : ℕ} (p : ReadyKind w n z j) (h g : ℕ)
+module _ {k : NamedKind} {other : List ℕ → ℕ → ℕ → ℕ → Bool} (i : Beginning k other) {w : List ℕ} {n z j : ℕ} (p : ReadyKind w n z j) (h g : ℕ)
     {b : Bool} (test : b ≡ are_numbers k n h g) (e : not b ≡ false) where
   pub acting_host_lem : ReadyHost w z j h
   acting_host_lem = ready_host k p h g test e i.known i.acting

@@ -1,5 +1,6 @@
 -- A catch-up, by the words that the code looks at: its peer, and what it leaves.
 -- Assumes nothing.
+use Rattle.std.specs.Prelude.{Ok}
 use Prim.Native.Nat.{ℕ, ◌+◌}
 use mathlib.Core.Path.{◌≡◌, refl, ap, ◌∙◌}
 use mathlib.Core.Bool.{Bool, true, false, not}
@@ -24,7 +25,7 @@ use Rattle.lookup.proofs.FoundReplicas.{At, at_found, no_member_lem, words_at}
 use Rattle.copying.specs.Copies.{copied}
 use Rattle.inherit_steps.proofs.Beginnings.{Beginning, other_host, not_other, begins}
 
-pub catching_up : Beginning CatchUp is_peer
+pub catching_up : Beginning (Ok CatchUp) is_peer
 unfolding is_kept is_unknown names_host most_fourth kind_checks catch_up_checks replica_in
 catching_up = record { known = record { not_kept = refl; known = refl }; acting = refl; fourth = refl; checks = λ w z j h g. refl }
 
@@ -39,7 +40,7 @@ unfolding is_peer replica_in
 peer_word a = simp (a.member, a.replica_is, pending_word)
 
 -- the numbers were tested, and are in range
-module _ {w : List ℕ} {n z j : ℕ} (p : ReadyKind w n z j) (h g : ℕ) {b : Bool} (test : b ≡ are_numbers CatchUp n h g) (e : not b ≡ false) where
+module _ {w : List ℕ} {n z j : ℕ} (p : ReadyKind w n z j) (h g : ℕ) {b : Bool} (test : b ≡ are_numbers (Ok CatchUp) n h g) (e : not b ≡ false) where
   -- the peer is looked for in the same configuration
   pub peer_host : ReadyHost w z j g
   peer_host = record { ready = p.ready; host = other_host catching_up p h g test e }
@@ -49,14 +50,14 @@ module _ {w : List ℕ} {n z j : ℕ} (p : ReadyKind w n z j) (h g : ℕ) {b : B
     at : At w z j h r.place
     at = at_found w z j h r s a
 
-    pub not_there : (q.answer ≡ 0 → ⊥) → (13 ≡ kind_answer CatchUp w z j h g) × (w ≡ kind_after CatchUp w z j h g)
+    pub not_there : (q.answer ≡ 0 → ⊥) → (13 ≡ kind_answer (Ok CatchUp) w z j h g) × (w ≡ kind_after (Ok CatchUp) w z j h g)
     not_there m = not_other catching_up p h g test e s a pending (no_peer w z j g q t at.there m)
 
     module _ (f : q.answer ≡ 0) where
       from : At w z j g q.place
       from = at_found w z j g q t f
 
-      pub peer_pending : get_or w q.place 0 ≡ 1 → (13 ≡ kind_answer CatchUp w z j h g) × (w ≡ kind_after CatchUp w z j h g)
+      pub peer_pending : get_or w q.place 0 ≡ 1 → (13 ≡ kind_answer (Ok CatchUp) w z j h g) × (w ≡ kind_after (Ok CatchUp) w z j h g)
       peer_pending m = not_other catching_up p h g test e s a pending (peer_word from ∙ ap not (eq-eqb _ _ m))
 
       pub holds : Placed w q.place → HoldsReplica w q.place
@@ -64,7 +65,7 @@ module _ {w : List ℕ} {n z j : ℕ} (p : ReadyKind w n z j) (h g : ℕ) {b : B
 
       pub done : (get_or w q.place 0 ≡ 1 → ⊥) → {v : List ℕ}
           → v ≡ put_replica w r.place (copied 2 (get_or w (q.place + 2) 0) (get_or w (q.place + 3) 0) (replica_at w q.place))
-          → (0 ≡ kind_answer CatchUp w z j h g) × (v ≡ kind_after CatchUp w z j h g)
+          → (0 ≡ kind_answer (Ok CatchUp) w z j h g) × (v ≡ kind_after (Ok CatchUp) w z j h g)
       unfolding kind_effect catch_up_effect caught_up replica_in
       done m x =
           begins catching_up p h g test e s a pending (peer_word from ∙ ap not (ne_eqb _ _ m))

@@ -1,5 +1,6 @@
 -- An inherit, by the words that the code looks at: its source, and what it leaves.
 -- Assumes nothing.
+use Rattle.std.specs.Prelude.{Ok}
 use Prim.Native.Nat.{ℕ, ◌+◌, ◌-◌}
 use mathlib.Core.Path.{◌≡◌, refl, ◌∙◌}
 use mathlib.Core.Bool.{Bool, false, not}
@@ -23,12 +24,12 @@ use Rattle.copying.specs.Copies.{copied}
 use Rattle.inherit_steps.proofs.Beginnings.{Beginning, other_host, not_other, begins}
 use Rattle.inherit_steps.proofs.InheritSource.{ready_before, no_source_lem, source_word}
 
-pub inheriting : Beginning Inherit is_source
+pub inheriting : Beginning (Ok Inherit) is_source
 unfolding is_kept is_unknown names_host most_fourth kind_checks inherit_checks
 inheriting = record { known = record { not_kept = refl; known = refl }; acting = refl; fourth = refl; checks = λ w z j h g. refl }
 
 -- the numbers were tested, and are in range
-module _ {w : List ℕ} {n z j : ℕ} (p : ReadyKind w n z j) (h g : ℕ) {b : Bool} (test : b ≡ are_numbers Inherit n h g) (e : not b ≡ false) where
+module _ {w : List ℕ} {n z j : ℕ} (p : ReadyKind w n z j) (h g : ℕ) {b : Bool} (test : b ≡ are_numbers (Ok Inherit) n h g) (e : not b ≡ false) where
   -- the source is looked for in the configuration before
   pub before : ReadyHost w z (j - 1) g
   before = record { ready = ready_before p.ready; host = other_host inheriting p h g test e }
@@ -38,14 +39,14 @@ module _ {w : List ℕ} {n z j : ℕ} (p : ReadyKind w n z j) (h g : ℕ) {b : B
     at : At w z j h r.place
     at = at_found w z j h r s a
 
-    pub not_there : (q.answer ≡ 0 → ⊥) → (13 ≡ kind_answer Inherit w z j h g) × (w ≡ kind_after Inherit w z j h g)
+    pub not_there : (q.answer ≡ 0 → ⊥) → (13 ≡ kind_answer (Ok Inherit) w z j h g) × (w ≡ kind_after (Ok Inherit) w z j h g)
     not_there m = not_other inheriting p h g test e s a pending (no_source_lem w z j g q t at.there m)
 
     module _ (f : q.answer ≡ 0) where
       from : At w z (j - 1) g q.place
       from = at_found w z (j - 1) g q t f
 
-      pub not_immutable_lem : (get_or w q.place 0 ≡ 3 → ⊥) → (13 ≡ kind_answer Inherit w z j h g) × (w ≡ kind_after Inherit w z j h g)
+      pub not_immutable_lem : (get_or w q.place 0 ≡ 3 → ⊥) → (13 ≡ kind_answer (Ok Inherit) w z j h g) × (w ≡ kind_after (Ok Inherit) w z j h g)
       not_immutable_lem m = not_other inheriting p h g test e s a pending (source_word j from ∙ ne_eqb _ _ m)
 
       pub holds : Placed w q.place → HoldsReplica w q.place
@@ -53,7 +54,7 @@ module _ {w : List ℕ} {n z j : ℕ} (p : ReadyKind w n z j) (h g : ℕ) {b : B
 
       pub done : get_or w q.place 0 ≡ 3 → {v : List ℕ}
           → v ≡ put_replica w r.place (copied 2 (get_or w (q.place + 2) 0) (g + 1) (replica_at w q.place))
-          → (0 ≡ kind_answer Inherit w z j h g) × (v ≡ kind_after Inherit w z j h g)
+          → (0 ≡ kind_answer (Ok Inherit) w z j h g) × (v ≡ kind_after (Ok Inherit) w z j h g)
       unfolding kind_effect inherit_effect inherited source
       done m x =
           begins inheriting p h g test e s a pending (source_word j from ∙ eq-eqb _ _ m)

@@ -1,5 +1,6 @@
 -- An install, by the words that the code looks at: what it answers and leaves.
 -- Assumes nothing.
+use Rattle.std.specs.Prelude.{Ok}
 use Prim.Native.Nat.{ℕ, ◌+◌, ◌-◌, ◌*◌, ◌≤◌, ◌<◌}
 use native.Mathlib.Omega.{arith}
 use mathlib.Core.Path.{◌≡◌, refl, sym, ap, ap₂, ◌∙◌}
@@ -31,34 +32,34 @@ use Rattle.lookup.proofs.KindAnswers.{rejects, accepts, fourth_small, ready_host
 use Rattle.install_steps.specs.Next.{ReadyNext}
 use Rattle.install_steps.proofs.InstallReads.{stable_is, issued_is, none_is}
 
-pub known : Known Install
+pub known : Known (Ok Install)
 unfolding is_kept is_unknown
 known = record { not_kept = refl; known = refl }
 
 -- the numbers were tested, and are in range
-module _ {w : List ℕ} {n z j : ℕ} (p : ReadyKind w n z j) (h q : ℕ) {b : Bool} (test : b ≡ are_numbers Install n h q) (e : not b ≡ false) where
+module _ {w : List ℕ} {n z j : ℕ} (p : ReadyKind w n z j) (h q : ℕ) {b : Bool} (test : b ≡ are_numbers (Ok Install) n h q) (e : not b ≡ false) where
   pub named : ReadyHost w z j h
   unfolding names_host
-  named = ready_host Install p h q test e known refl
+  named = ready_host (Ok Install) p h q test e known refl
 
   pub few : q ≤ 55
   unfolding most_fourth
-  few = fourth_small Install p h q test e known
+  few = fourth_small (Ok Install) p h q test e known
 
   -- r is the replica that was found
   module _ {r : Found} (s : r ≡ found_of w (sequencer w z) j h) where
-    pub nowhere : (r.answer ≡ 0 → ⊥) → (r.answer ≡ kind_answer Install w z j h q) × (w ≡ kind_after Install w z j h q)
+    pub nowhere : (r.answer ≡ 0 → ⊥) → (r.answer ≡ kind_answer (Ok Install) w z j h q) × (w ≡ kind_after (Ok Install) w z j h q)
     unfolding kind_checks install_checks
-    nowhere m = rejects Install p h q test e (early w (sequencer w z) j h r s _ m) m
+    nowhere m = rejects (Ok Install) p h q test e (early w (sequencer w z) j h r s _ m) m
 
     module _ (a : r.answer ≡ 0) where
       at : At w (sequencer w z) j h r.place
       at = at_found w (sequencer w z) j h r s a
 
-      pub not_stable : get_or w (r.place + 2) 0 ≤ q → (20 ≡ kind_answer Install w z j h q) × (w ≡ kind_after Install w z j h q)
+      pub not_stable : get_or w (r.place + 2) 0 ≤ q → (20 ≡ kind_answer (Ok Install) w z j h q) × (w ≡ kind_after (Ok Install) w z j h q)
       unfolding kind_checks install_checks is_stable_issue first_of
       not_stable l =
-          rejects Install p h q test e (simp (at.there, at.member, stable_is named at, le-ltb q (get_or w (r.place + 2) 0) l))
+          rejects (Ok Install) p h q test e (simp (at.there, at.member, stable_is named at, le-ltb q (get_or w (r.place + 2) 0) l))
           (λ o. omega arith)
 
       -- the entry at the place, which is stable
@@ -76,10 +77,10 @@ module _ {w : List ℕ} {n z j : ℕ} (p : ReadyKind w n z j) (h q : ℕ) {b : B
         third = rw (stable_is named at, lt-ltb q (get_or w (r.place + 2) 0) l, entry_is)
 
         module _ {t : Bool} (k : t ≡ is_issue_for z (get_or w (r.place + 8 + q) 0)) where
-          pub no_issue : not t ≡ true → (20 ≡ kind_answer Install w z j h q) × (w ≡ kind_after Install w z j h q)
+          pub no_issue : not t ≡ true → (20 ≡ kind_answer (Ok Install) w z j h q) × (w ≡ kind_after (Ok Install) w z j h q)
           unfolding kind_checks install_checks first_of entry
           no_issue m =
-              rejects Install p h q test e (simp (at.there, at.member, third, sym k ∙ not-true t m)) (λ o. omega arith)
+              rejects (Ok Install) p h q test e (simp (at.there, at.member, third, sym k ∙ not-true t m)) (λ o. omega arith)
 
           issue_for : not t ≡ false → (is_issue (get_or w (r.place + 8 + q) 0) ≡ true) × (eqb (issue_shard (get_or w (r.place + 8 + q) 0)) z ≡ true)
           unfolding is_issue_for
@@ -100,17 +101,17 @@ module _ {w : List ℕ} {n z j : ℕ} (p : ReadyKind w n z j) (h q : ℕ) {b : B
             unfolding entry
             index_is = ap issue_index entry_is ∙ sym y
 
-            pub not_next : (x ≡ get_or w (z * 2112 + 1) 0 + 1 → ⊥) → (21 ≡ kind_answer Install w z j h q) × (w ≡ kind_after Install w z j h q)
+            pub not_next : (x ≡ get_or w (z * 2112 + 1) 0 + 1 → ⊥) → (21 ≡ kind_answer (Ok Install) w z j h q) × (w ≡ kind_after (Ok Install) w z j h q)
             unfolding kind_checks install_checks first_of
             not_next m =
-                rejects Install p h q test e (simp (at.there, at.member, issued, index_is, installed_word, ne_eqb _ _ m)) (λ o. omega arith)
+                rejects (Ok Install) p h q test e (simp (at.there, at.member, issued, index_is, installed_word, ne_eqb _ _ m)) (λ o. omega arith)
 
             -- d is whether the newest configuration is wedged
             pub not_wedged : x ≡ get_or w (z * 2112 + 1) 0 + 1 → {d : Bool} → d ≡ is_newest_wedged w z → not d ≡ true
-                → (24 ≡ kind_answer Install w z j h q) × (w ≡ kind_after Install w z j h q)
+                → (24 ≡ kind_answer (Ok Install) w z j h q) × (w ≡ kind_after (Ok Install) w z j h q)
             unfolding kind_checks install_checks first_of
             not_wedged f {d} tested m =
-                rejects Install p h q test e
+                rejects (Ok Install) p h q test e
                 (simp (at.there, at.member, issued, index_is, installed_word, eq-eqb _ _ f, sym tested ∙ not-true d m))
                 (λ o. omega arith)
 
@@ -138,9 +139,9 @@ module _ {w : List ℕ} {n z j : ℕ} (p : ReadyKind w n z j) (h q : ℕ) {b : B
                     sixth,
                   )
 
-              pub earlier : u ≡ true → (22 ≡ kind_answer Install w z j h q) × (w ≡ kind_after Install w z j h q)
+              pub earlier : u ≡ true → (22 ≡ kind_answer (Ok Install) w z j h q) × (w ≡ kind_after (Ok Install) w z j h q)
               unfolding kind_checks
-              earlier m = rejects Install p h q test e (rw m at last) (λ o. omega arith)
+              earlier m = rejects (Ok Install) p h q test e (rw m at last) (λ o. omega arith)
 
               module _ (i : u ≡ false) where
                 first : 0 ≡ first_of (install_checks w z j h q)
@@ -172,6 +173,6 @@ module _ {w : List ℕ} {n z j : ℕ} (p : ReadyKind w n z j) (h q : ℕ) {b : B
                         configured = proper.configuration;
                       })
 
-                  pub done : {v : List ℕ} → v ≡ install_next w z m o → (0 ≡ kind_answer Install w z j h q) × (v ≡ kind_after Install w z j h q)
+                  pub done : {v : List ℕ} → v ≡ install_next w z m o → (0 ≡ kind_answer (Ok Install) w z j h q) × (v ≡ kind_after (Ok Install) w z j h q)
                   unfolding kind_checks kind_effect install_effect
-                  done s = accepts Install p h q test e first (s ∙ sym (ap₂ (install_next w z) members_are orderer_is))
+                  done s = accepts (Ok Install) p h q test e first (s ∙ sym (ap₂ (install_next w z) members_are orderer_is))

@@ -1,5 +1,6 @@
 -- A learn, by the words that the code looks at: what it answers and leaves.
 -- Assumes nothing.
+use Rattle.std.specs.Prelude.{Ok}
 use Prim.Native.Nat.{ℕ, ◌+◌, ◌≤◌, ◌<◌}
 use native.Mathlib.Omega.{arith}
 use mathlib.Core.Path.{◌≡◌, refl, ◌∙◌}
@@ -27,40 +28,40 @@ use Rattle.lookup.proofs.KindAnswers.{rejects, accepts, fourth_small, ready_host
 use Rattle.learn_steps.specs.AlikeWords.{Compared, all_alike_at}
 use Rattle.learn_steps.proofs.LearnAlike.{compared, all_alike_words}
 
-pub known : Known Learn
+pub known : Known (Ok Learn)
 unfolding is_kept is_unknown
 known = record { not_kept = refl; known = refl }
 
 -- the numbers were tested, and are in range
-module _ {w : List ℕ} {m z j : ℕ} (p : ReadyKind w m z j) (h n : ℕ) {b : Bool} (test : b ≡ are_numbers Learn m h n) (e : not b ≡ false) where
+module _ {w : List ℕ} {m z j : ℕ} (p : ReadyKind w m z j) (h n : ℕ) {b : Bool} (test : b ≡ are_numbers (Ok Learn) m h n) (e : not b ≡ false) where
   pub named : ReadyHost w z j h
   unfolding names_host
-  named = ready_host Learn p h n test e known refl
+  named = ready_host (Ok Learn) p h n test e known refl
 
   few : n ≤ 56
   unfolding most_fourth
-  few = fourth_small Learn p h n test e known
+  few = fourth_small (Ok Learn) p h n test e known
 
   -- r is the replica that was found
   module _ {r : Found} (s : r ≡ found_of w z j h) where
-    pub nowhere : (r.answer ≡ 0 → ⊥) → (r.answer ≡ kind_answer Learn w z j h n) × (w ≡ kind_after Learn w z j h n)
+    pub nowhere : (r.answer ≡ 0 → ⊥) → (r.answer ≡ kind_answer (Ok Learn) w z j h n) × (w ≡ kind_after (Ok Learn) w z j h n)
     unfolding kind_checks learn_checks
-    nowhere q = rejects Learn p h n test e (early w z j h r s _ q) q
+    nowhere q = rejects (Ok Learn) p h n test e (early w z j h r s _ q) q
 
     module _ (a : r.answer ≡ 0) where
       at : At w z j h r.place
       at = at_found w z j h r s a
 
-      pub not_active : (get_or w r.place 0 ≡ 2 → ⊥) → (12 ≡ kind_answer Learn w z j h n) × (w ≡ kind_after Learn w z j h n)
+      pub not_active : (get_or w r.place 0 ≡ 2 → ⊥) → (12 ≡ kind_answer (Ok Learn) w z j h n) × (w ≡ kind_after (Ok Learn) w z j h n)
       unfolding kind_checks learn_checks first_of
       not_active q =
-          rejects Learn p h n test e (simp (at.there, at.member, at.replica_is, active_word, ne_eqb _ _ q)) (λ o. omega arith)
+          rejects (Ok Learn) p h n test e (simp (at.there, at.member, at.replica_is, active_word, ne_eqb _ _ q)) (λ o. omega arith)
 
       module _ (active : get_or w r.place 0 ≡ 2) where
-        pub not_above : n ≤ get_or w (r.place + 2) 0 → (18 ≡ kind_answer Learn w z j h n) × (w ≡ kind_after Learn w z j h n)
+        pub not_above : n ≤ get_or w (r.place + 2) 0 → (18 ≡ kind_answer (Ok Learn) w z j h n) × (w ≡ kind_after (Ok Learn) w z j h n)
         unfolding kind_checks learn_checks first_of
         not_above q =
-            rejects Learn p h n test e
+            rejects (Ok Learn) p h n test e
             (simp (at.there, at.member, at.replica_is, active_word, eq-eqb _ _ active, stable_word, le-ltb _ _ q))
             (λ o. omega arith)
 
@@ -86,12 +87,12 @@ module _ {w : List ℕ} {m z j : ℕ} (p : ReadyKind w m z j) (h n : ℕ) {b : B
                   ← q,
                 )
 
-            pub unlike : not t ≡ true → (19 ≡ kind_answer Learn w z j h n) × (w ≡ kind_after Learn w z j h n)
+            pub unlike : not t ≡ true → (19 ≡ kind_answer (Ok Learn) w z j h n) × (w ≡ kind_after (Ok Learn) w z j h n)
             unfolding kind_checks
-            unlike f = rejects Learn p h n test e (rw (not-true t f) at last) (λ o. omega arith)
+            unlike f = rejects (Ok Learn) p h n test e (rw (not-true t f) at last) (λ o. omega arith)
 
-            pub done : not t ≡ false → (0 ≡ kind_answer Learn w z j h n) × (set w (r.place + 2) n ≡ kind_after Learn w z j h n)
+            pub done : not t ≡ false → (0 ≡ kind_answer (Ok Learn) w z j h n) × (set w (r.place + 2) n ≡ kind_after (Ok Learn) w z j h n)
             unfolding kind_checks kind_effect learn_effect
             done f =
-                accepts Learn p h n test e (rw (not-false t f) at last)
+                accepts (Ok Learn) p h n test e (rw (not-false t f) at last)
                 (store_stable w r.place _ (words_at at p.ready) n ∙ rw (at.place_is, at.replica_is))

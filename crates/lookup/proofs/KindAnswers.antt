@@ -7,9 +7,8 @@ use mathlib.Core.Bool.{Bool, true, false, not}
 use mathlib.Core.List.{List}
 use lib.ListN.{length}
 use borrow.Author.Tests.{ne_eqb, not-true, not-false}
-use Rattle.types.specs.declared.kind.Kind.{Kind}
 use Rattle.model.specs.Checks.{first_of}
-use Rattle.types.specs.Kinds.{names_host}
+use Rattle.types.specs.Kinds.{NamedKind, names_host}
 use Rattle.types.specs.Rules.{Known, most_fourth}
 use Rattle.model.specs.Layout.{shards_of}
 use Rattle.model.specs.Steps.{are_numbers, kind_checks, kind_effect}
@@ -17,7 +16,7 @@ use Rattle.model.proofs.StepNumbers.{numbers_tell, host_told}
 use Rattle.lookup.specs.Ready.{ReadyHost}
 use Rattle.lookup.specs.KindContracts.{ReadyKind, kind_answer, kind_after}
 
-module _ (k : Kind) {w : List ℕ} {n z j : ℕ} (p : ReadyKind w n z j) (c d : ℕ) {b : Bool} (test : b ≡ are_numbers k n c d) where
+module _ (k : NamedKind) {w : List ℕ} {n z j : ℕ} (p : ReadyKind w n z j) (c d : ℕ) {b : Bool} (test : b ≡ are_numbers k n c d) where
   tested : {t : Bool} → b ≡ t → are_numbers k (shards_of (length w)) c d ≡ t
   tested e = ap (λ (m : ℕ). are_numbers k m c d) (sym p.count) ∙ sym test ∙ e
 

@@ -1,5 +1,6 @@
 -- A step on a well-formed state, its shard and its index being in range: its kind answers, and leaves what it answers for.
 -- Assumes nothing.
+use Rattle.std.specs.Prelude.{Err}
 use Prim.Native.Nat.{ℕ, ◌-◌, ◌≤◌}
 use native.Mathlib.Omega.{arith}
 use mathlib.Core.Path.{◌≡◌, ◌∙◌}
@@ -8,11 +9,10 @@ use mathlib.Core.List.{List, [], ◌∷◌}
 use lib.Dec.{leb, ltb}
 use lib.ListN.{length}
 use borrow.Author.Tests.{le-leb, leb-true, ltb-true}
-use Rattle.types.specs.declared.kind.Kind.{Kind}
-use Rattle.types.specs.declared.kind.Kind.TheVariants.{Kept, Unknown}
+use Rattle.types.specs.declared.kind.NoKind.TheVariants.{Kept, Unknown}
 use Rattle.types.specs.declared.step.Step.{Step}
 use Rattle.model.specs.Checks.{first_of}
-use Rattle.types.specs.Kinds.{kind_of, is_kept, is_unknown, names_host}
+use Rattle.types.specs.Kinds.{NamedKind, kind_of, is_kept, is_unknown, names_host}
 use Rattle.types.specs.Rules.{Known}
 use Rattle.model.specs.Layout.{shards_of, is_state_length}
 use Rattle.types.specs.StepNames.{shard_of, configuration_of, acting_host}
@@ -55,7 +55,7 @@ module _ {w : List ℕ} {n : ℕ} {s : Step} (r : ReadyStep w n s) where
         }
 
     -- k is the kind
-    module _ {k : Kind} (e : kind_of s.kind ≡ k) (known : Known k) where
+    module _ {k : NamedKind} (e : kind_of s.kind ≡ k) (known : Known k) where
       answered : kind_answer k w z (s.b - 1) s.c s.d ≡ rejection w s
       unfolding rejection step_checks first_of kind_answer in_range is_state_length configuration_of shard_of
       answered =
@@ -97,10 +97,10 @@ module _ {w : List ℕ} {n : ℕ} {s : Step} (r : ReadyStep w n s) where
             by_numbers (rw i at p)
 
   -- a kind that has no function
-  pub kept_for_later : kind_of s.kind ≡ Kept → (3 ≡ rejection w s) × (w ≡ after w s)
+  pub kept_for_later : kind_of s.kind ≡ (Err Kept) → (3 ≡ rejection w s) × (w ≡ after w s)
   unfolding range_rejection first_of is_kept
   kept_for_later e = rejects_early w s r.count (has_shards r.state r.count) (rw e) (λ q. omega arith)
 
-  pub no_kind : kind_of s.kind ≡ Unknown → (4 ≡ rejection w s) × (w ≡ after w s)
+  pub no_kind : kind_of s.kind ≡ (Err Unknown) → (4 ≡ rejection w s) × (w ≡ after w s)
   unfolding range_rejection first_of is_kept is_unknown
   no_kind e = rejects_early w s r.count (has_shards r.state r.count) (rw e) (λ q. omega arith)

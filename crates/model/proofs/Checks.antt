@@ -1,4 +1,5 @@
 -- An accepted step has passed every check.
+use Rattle.std.specs.Prelude.{Ok, Err}
 use Prim.Native.Nat.{ℕ, ◌≤◌, ◌<◌}
 use native.Mathlib.Omega.{arith}
 use mathlib.Core.Path.{◌≡◌, refl}
@@ -7,11 +8,11 @@ use mathlib.Core.List.{List, [], ◌∷◌, ◌++◌}
 use lib.Dec.{leb, ltb, eqb}
 use lib.ListN.{length}
 use borrow.Author.Tests.{leb-true, ltb-true, eq-eqb, eqb-false}
-use Rattle.types.specs.declared.kind.Kind.{Kind}
-use Rattle.types.specs.declared.kind.Kind.TheVariants.{Add, Adopt, Learn, Wedge, Install, Inherit, CatchUp, Kept, Unknown}
+use Rattle.types.specs.declared.kind.Kind.TheVariants.{Add, Adopt, Learn, Wedge, Install, Inherit, CatchUp}
+use Rattle.types.specs.declared.kind.NoKind.TheVariants.{Kept, Unknown}
 use Rattle.types.specs.declared.step.Step.{Step}
 use Rattle.model.specs.Checks.{Check, first_of}
-use Rattle.types.specs.Kinds.{kind_of}
+use Rattle.types.specs.Kinds.{NamedKind, kind_of}
 use Rattle.model.specs.Layout.{shards_of, is_state_length}
 use Rattle.model.specs.WellFormed.{well_formed}
 use Rattle.model.specs.Add.{add_checks}
@@ -98,18 +99,18 @@ told n (c ∷ cs) e = go (eqb c.number n) refl c.passes refl e (told n cs)
     go false p false q f rest = absurd (eqb-false c.number n p f)
 
 -- no check of a kind has the number 0 or 9
-kind_numbers : (k : Kind) (w : List ℕ) (z j c d : ℕ)
+kind_numbers : (k : NamedKind) (w : List ℕ) (z j c d : ℕ)
     → (are_numbered (kind_checks k w z j c d) ≡ true) × (pass_at 9 (kind_checks k w z j c d) ≡ true)
 unfolding kind_checks add_checks adopt_checks learn_checks wedge_checks install_checks inherit_checks catch_up_checks
-kind_numbers Add w z j c d = (refl, refl)
-kind_numbers Adopt w z j c d = (refl, refl)
-kind_numbers Learn w z j c d = (refl, refl)
-kind_numbers Wedge w z j c d = (refl, refl)
-kind_numbers Install w z j c d = (refl, refl)
-kind_numbers Inherit w z j c d = (refl, refl)
-kind_numbers CatchUp w z j c d = (refl, refl)
-kind_numbers Kept w z j c d = (refl, refl)
-kind_numbers Unknown w z j c d = (refl, refl)
+kind_numbers (Ok Add) w z j c d = (refl, refl)
+kind_numbers (Ok Adopt) w z j c d = (refl, refl)
+kind_numbers (Ok Learn) w z j c d = (refl, refl)
+kind_numbers (Ok Wedge) w z j c d = (refl, refl)
+kind_numbers (Ok Install) w z j c d = (refl, refl)
+kind_numbers (Ok Inherit) w z j c d = (refl, refl)
+kind_numbers (Ok CatchUp) w z j c d = (refl, refl)
+kind_numbers (Err Kept) w z j c d = (refl, refl)
+kind_numbers (Err Unknown) w z j c d = (refl, refl)
 
 -- the numbers of a step are in range
 pub record InRange (Z : ℕ) (s : Step) : Type 0 where

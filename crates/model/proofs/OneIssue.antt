@@ -1,15 +1,16 @@
 -- The proof of `specs/OneIssue.antt`: in a safe state the test of 22 passes wherever install comes to it.
 -- Assumes nothing.
+use Rattle.std.specs.Prelude.{Ok, Err}
 use Prim.Native.Nat.{ℕ, ◌<◌}
 use native.Mathlib.Omega.{arith}
 use mathlib.Core.Path.{◌≡◌, refl, sym, ◌∙◌}
 use mathlib.Core.Bool.{true}
 use mathlib.Core.List.{List, []}
 use lib.ListN.{length}
-use Rattle.types.specs.declared.kind.Kind.{Kind}
-use Rattle.types.specs.declared.kind.Kind.TheVariants.{Add, Adopt, Learn, Wedge, Install, Inherit, CatchUp, Kept, Unknown}
+use Rattle.types.specs.declared.kind.Kind.TheVariants.{Add, Adopt, Learn, Wedge, Install, Inherit, CatchUp}
+use Rattle.types.specs.declared.kind.NoKind.TheVariants.{Kept, Unknown}
 use Rattle.types.specs.declared.step.Step.{Step}
-use Rattle.types.specs.Kinds.{kind_of}
+use Rattle.types.specs.Kinds.{NamedKind, kind_of}
 use Rattle.types.specs.Members.{has_member, replica_number}
 use Rattle.model.specs.Entries.{issue_index, names}
 use Rattle.model.specs.Layout.{shards_of, sequencer, members}
@@ -59,7 +60,7 @@ module _ {w : List ℕ} {offers : ℕ → List ℕ} (x : Safe w offers) where
         (rw t.2 at (names_own (issued_at w z j h p) t.1))
 
   -- of the kinds only install tells 22, and it has passed the checks before by then
-  install_passes : (s : Step) → kind_of s.kind ≡ Install → rejection w s ≡ 22
+  install_passes : (s : Step) → kind_of s.kind ≡ (Ok Install) → rejection w s ≡ 22
       → none_before (shard_of s) (issue_index (issued_at w (shard_of s) (configuration_of s) s.c s.d)) s.d
       (issuer w (shard_of s) (configuration_of s) s.c).history
       ≡ true
@@ -70,17 +71,17 @@ module _ {w : List ℕ} {offers : ℕ → List ℕ} (x : Safe w offers) where
       let range = in_range_lem (shards_of (length w)) s ranged in
       first_there range.shard range.configuration s.c s.d (search) (search)
 
-  not_told : (s : Step) (k : Kind) → kind_of s.kind ≡ k → rejection w s ≡ 22 → ⊥
+  not_told : (s : Step) (k : NamedKind) → kind_of s.kind ≡ k → rejection w s ≡ 22 → ⊥
   unfolding rejection step_checks kind_checks add_checks adopt_checks learn_checks wedge_checks install_checks inherit_checks catch_up_checks
-  not_told s Add e r = never 22 (step_checks w s) (omega arith) (rw e) r
-  not_told s Adopt e r = never 22 (step_checks w s) (omega arith) (rw e) r
-  not_told s Learn e r = never 22 (step_checks w s) (omega arith) (rw e) r
-  not_told s Wedge e r = never 22 (step_checks w s) (omega arith) (rw e) r
-  not_told s Install e r = never 22 (step_checks w s) (omega arith) (rw (e, install_passes s e r)) r
-  not_told s Inherit e r = never 22 (step_checks w s) (omega arith) (rw e) r
-  not_told s CatchUp e r = never 22 (step_checks w s) (omega arith) (rw e) r
-  not_told s Kept e r = never 22 (step_checks w s) (omega arith) (rw e) r
-  not_told s Unknown e r = never 22 (step_checks w s) (omega arith) (rw e) r
+  not_told s (Ok Add) e r = never 22 (step_checks w s) (omega arith) (rw e) r
+  not_told s (Ok Adopt) e r = never 22 (step_checks w s) (omega arith) (rw e) r
+  not_told s (Ok Learn) e r = never 22 (step_checks w s) (omega arith) (rw e) r
+  not_told s (Ok Wedge) e r = never 22 (step_checks w s) (omega arith) (rw e) r
+  not_told s (Ok Install) e r = never 22 (step_checks w s) (omega arith) (rw (e, install_passes s e r)) r
+  not_told s (Ok Inherit) e r = never 22 (step_checks w s) (omega arith) (rw e) r
+  not_told s (Ok CatchUp) e r = never 22 (step_checks w s) (omega arith) (rw e) r
+  not_told s (Err Kept) e r = never 22 (step_checks w s) (omega arith) (rw e) r
+  not_told s (Err Unknown) e r = never 22 (step_checks w s) (omega arith) (rw e) r
 
   -- the history of a host is one of the view
   seated_single : {z j h : ℕ} → Seated w z j h → (y i p q : ℕ) → names y i (entry_of w z j h p) ≡ true → names y i (entry_of w z j h q) ≡ true

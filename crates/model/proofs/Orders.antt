@@ -1,10 +1,11 @@
 -- The proof of `specs/Orders.antt`: the checks of each kind are written out, so their numbers compute. Assumes nothing.
+use Rattle.std.specs.Prelude.{Ok, Err}
 use Prim.Native.Nat.{ℕ}
 use mathlib.Core.Path.{◌≡◌, refl}
 use mathlib.Core.List.{List}
-use Rattle.types.specs.declared.kind.Kind.{Kind}
-use Rattle.types.specs.declared.kind.Kind.TheVariants.{Add, Adopt, Learn, Wedge, Install, Inherit, CatchUp, Kept, Unknown}
-use Rattle.types.specs.Kinds.{kind_of}
+use Rattle.types.specs.declared.kind.Kind.TheVariants.{Add, Adopt, Learn, Wedge, Install, Inherit, CatchUp}
+use Rattle.types.specs.declared.kind.NoKind.TheVariants.{Kept, Unknown}
+use Rattle.types.specs.Kinds.{NamedKind, kind_of}
 use Rattle.model.specs.Add.{add_checks}
 use Rattle.model.specs.Adopt.{adopt_checks}
 use Rattle.model.specs.Learn.{learn_checks}
@@ -16,17 +17,17 @@ use Rattle.types.specs.StepNames.{shard_of, configuration_of}
 use Rattle.model.specs.Steps.{kind_checks, step_checks}
 use Rattle.model.specs.Orders.{check_numbers, kind_order, Orders}
 
-kind_order_lem : (k : Kind) (w : List ℕ) (z j c d : ℕ) → check_numbers (kind_checks k w z j c d) ≡ kind_order k
+kind_order_lem : (k : NamedKind) (w : List ℕ) (z j c d : ℕ) → check_numbers (kind_checks k w z j c d) ≡ kind_order k
 unfolding check_numbers kind_order kind_checks add_checks adopt_checks learn_checks wedge_checks install_checks inherit_checks catch_up_checks
-kind_order_lem Add w z j c d = refl
-kind_order_lem Adopt w z j c d = refl
-kind_order_lem Learn w z j c d = refl
-kind_order_lem Wedge w z j c d = refl
-kind_order_lem Install w z j c d = refl
-kind_order_lem Inherit w z j c d = refl
-kind_order_lem CatchUp w z j c d = refl
-kind_order_lem Kept w z j c d = refl
-kind_order_lem Unknown w z j c d = refl
+kind_order_lem (Ok Add) w z j c d = refl
+kind_order_lem (Ok Adopt) w z j c d = refl
+kind_order_lem (Ok Learn) w z j c d = refl
+kind_order_lem (Ok Wedge) w z j c d = refl
+kind_order_lem (Ok Install) w z j c d = refl
+kind_order_lem (Ok Inherit) w z j c d = refl
+kind_order_lem (Ok CatchUp) w z j c d = refl
+kind_order_lem (Err Kept) w z j c d = refl
+kind_order_lem (Err Unknown) w z j c d = refl
 
 pub step_orders : Orders
 unfolding check_numbers step_checks

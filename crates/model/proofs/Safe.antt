@@ -1,5 +1,6 @@
 -- What holds of every state of a run, with the entries offered to each shard so far.
 -- Assumes nothing.
+use Rattle.std.specs.Prelude.{Ok}
 use Prim.Native.Nat.{ℕ, suc, ◌≤◌, ◌<◌}
 use mathlib.Core.Path.{◌≡◌}
 use mathlib.Core.Bool.{true, cond}
@@ -32,5 +33,5 @@ offers_after s offers z = cond (is_add_in z s 0) (s.c ∷ offers z) (offers z)
 
 -- the step is an install of shard z
 pub record Installs (s : Step) (z : ℕ) : Type 0 where
-  pub kind : kind_of s.kind ≡ Install
+  pub kind : kind_of s.kind ≡ (Ok Install)
   pub shard : shard_of s ≡ z

@@ -1,16 +1,17 @@
 -- An accepted step keeps a state safe, and goes forward.
 -- Assumes nothing.
+use Rattle.std.specs.Prelude.{Ok, Err}
 use Prim.Native.Nat.{ℕ, suc, ◌<◌}
 use mathlib.Core.Path.{◌≡◌, refl, sym}
 use mathlib.Core.Bool.{Bool, true, false, cond, ◌&&◌}
 use mathlib.Core.List.{List, ◌∷◌}
 use lib.Dec.{leb, eqb}
 use borrow.Author.Tests.{eq-eqb}
-use Rattle.types.specs.declared.kind.Kind.{Kind}
-use Rattle.types.specs.declared.kind.Kind.TheVariants.{Add, Adopt, Learn, Wedge, Install, Inherit, CatchUp, Kept, Unknown}
+use Rattle.types.specs.declared.kind.Kind.TheVariants.{Add, Adopt, Learn, Wedge, Install, Inherit, CatchUp}
+use Rattle.types.specs.declared.kind.NoKind.TheVariants.{Kept, Unknown}
 use Rattle.types.specs.declared.step.Step.{Step}
 use Rattle.model.specs.Tests.{contains}
-use Rattle.types.specs.Kinds.{kind_of}
+use Rattle.types.specs.Kinds.{NamedKind, kind_of}
 use Rattle.model.specs.Layout.{sequencer, installed}
 use Rattle.types.specs.StepNames.{shard_of}
 use Rattle.model.specs.Steps.{kind_checks, kind_effect, rejection, effect}
@@ -28,18 +29,18 @@ use Rattle.model.proofs.SafeKinds.{kept_add, kept_adopt, kept_learn, kept_wedge,
 use Rattle.model.proofs.SafeInstall.{kept_install}
 
 -- the kind that offers
-is_add : Kind → Bool
-is_add Add = true
-is_add Adopt = false
-is_add Learn = false
-is_add Wedge = false
-is_add Install = false
-is_add Inherit = false
-is_add CatchUp = false
-is_add Kept = false
-is_add Unknown = false
+is_add : NamedKind → Bool
+is_add (Ok Add) = true
+is_add (Ok Adopt) = false
+is_add (Ok Learn) = false
+is_add (Ok Wedge) = false
+is_add (Ok Install) = false
+is_add (Ok Inherit) = false
+is_add (Ok CatchUp) = false
+is_add (Err Kept) = false
+is_add (Err Unknown) = false
 
-neither : (b : Bool) (k l : Kind) → is_add k ≡ false → is_add l ≡ false → is_add (cond b k l) ≡ false
+neither : (b : Bool) (k l : NamedKind) → is_add k ≡ false → is_add l ≡ false → is_add (cond b k l) ≡ false
 neither true k l p q = p
 neither false k l p q = q
 
@@ -48,8 +49,8 @@ kind_is_add : (n : ℕ) → eqb n 1 ≡ is_add (kind_of n)
 unfolding kind_of is_add
 kind_is_add n = go (eqb n 1) refl
   where
-    rest : is_add (cond (eqb n 2) Adopt (cond (eqb n 3) Learn (cond (eqb n 4) Wedge (cond (eqb n 5) Install (cond (eqb n 6) Inherit
-        (cond (eqb n 7) CatchUp (cond (leb 8 n && leb n 31) Kept Unknown))))))) ≡ false
+    rest : is_add (cond (eqb n 2) (Ok Adopt) (cond (eqb n 3) (Ok Learn) (cond (eqb n 4) (Ok Wedge) (cond (eqb n 5) (Ok Install) (cond (eqb n 6) (Ok Inherit)
+        (cond (eqb n 7) (Ok CatchUp) (cond (leb 8 n && leb n 31) (Err Kept) (Err Unknown)))))))) ≡ false
     rest =
         neither (eqb n 2) _ _ refl
         (neither (eqb n 3) _ _ refl
@@ -104,29 +105,29 @@ kept_same x =
     }
 
 -- by kinds
-kept_step : {w : List ℕ} {offers : ℕ → List ℕ} → Safe w offers → (s : Step) → Accepted w s → (k : Kind) → kind_of s.kind ≡ k
+kept_step : {w : List ℕ} {offers : ℕ → List ℕ} → Safe w offers → (s : Step) → Accepted w s → (k : NamedKind) → kind_of s.kind ≡ k
     → SafeChange (Installs s) w offers (effect w s) (offers_after s offers)
 unfolding effect kind_effect kind_checks shards is_add
-kept_step {w} {offers} x s a Add e =
+kept_step {w} {offers} x s a (Ok Add) e =
     rw e
     (kept_add x a.range.shard a.range.configuration s.c (rw e at a.checks) (offers_wider s offers) (add_offers s offers (rw e)))
-kept_step {w} {offers} x s a Adopt e =
+kept_step {w} {offers} x s a (Ok Adopt) e =
     rw e (kept_as (offers_same s offers (rw e)) (kept_adopt x a.range.shard a.range.configuration s.c (rw e at a.checks)))
-kept_step {w} {offers} x s a Learn e =
+kept_step {w} {offers} x s a (Ok Learn) e =
     rw e (kept_as (offers_same s offers (rw e)) (kept_learn x a.range.shard a.range.configuration s.c s.d (rw e at a.checks)))
-kept_step {w} {offers} x s a Wedge e =
+kept_step {w} {offers} x s a (Ok Wedge) e =
     rw e (kept_as (offers_same s offers (rw e)) (kept_wedge x a.range.shard a.range.configuration s.c (rw e at a.checks)))
-kept_step {w} {offers} x s a Install e =
+kept_step {w} {offers} x s a (Ok Install) e =
     rw e
     (kept_as (offers_same s offers (rw e))
     (kept_install x a.range.shard a.range.configuration s.c s.d (rw e at a.checks) (record { kind = e; shard = refl })))
-kept_step {w} {offers} x s a Inherit e =
+kept_step {w} {offers} x s a (Ok Inherit) e =
     rw e (kept_as (offers_same s offers (rw e)) (kept_inherit x a.range.shard a.range.configuration s.c s.d (rw e at a.checks)))
-kept_step {w} {offers} x s a CatchUp e =
+kept_step {w} {offers} x s a (Ok CatchUp) e =
     rw e (kept_as (offers_same s offers (rw e)) (kept_catch_up x a.range.shard a.range.configuration s.c s.d (rw e at a.checks)))
-kept_step {w} {offers} x s a Kept e =
+kept_step {w} {offers} x s a (Err Kept) e =
     rw e (kept_as (offers_same s offers (rw e)) (kept_same x))
-kept_step {w} {offers} x s a Unknown e =
+kept_step {w} {offers} x s a (Err Unknown) e =
     rw e (kept_as (offers_same s offers (rw e)) (kept_same x))
 
 pub record SafeStep (w : List ℕ) (s : Step) (w' : List ℕ) (offers' : ℕ → List ℕ) : Type 0 where

@@ -1,6 +1,7 @@
 -- What a step of any kind but install answers and writes depends on its own shard's block and on the sequencers alone: on two well-formed states that have
 -- these alike it gets the same answer, and where it is accepted it writes the same replica to the same place of both.
 -- Assumes nothing.
+use Rattle.std.specs.Prelude.{Ok, Err}
 use Prim.Native.Nat.{ℕ, ◌-◌, ◌≤◌, ◌<◌}
 use native.Mathlib.Nat.{lt_of_lt_of_le}
 use native.Mathlib.Omega.{arith}
@@ -9,11 +10,11 @@ use mathlib.Core.Bool.{Bool, true, false, cond, not, ◌&&◌}
 use mathlib.Core.List.{List, [], ◌∷◌}
 use lib.ListN.{length, length-append}
 use borrow.Author.Tests.{ltb-true}
-use Rattle.types.specs.declared.kind.Kind.{Kind}
-use Rattle.types.specs.declared.kind.Kind.TheVariants.{Add, Adopt, Learn, Wedge, Install, Inherit, CatchUp, Kept, Unknown}
+use Rattle.types.specs.declared.kind.Kind.TheVariants.{Add, Adopt, Learn, Wedge, Install, Inherit, CatchUp}
+use Rattle.types.specs.declared.kind.NoKind.TheVariants.{Kept, Unknown}
 use Rattle.types.specs.declared.step.Step.{Step}
 use Rattle.model.specs.Checks.{Check, first_of}
-use Rattle.types.specs.Kinds.{kind_of}
+use Rattle.types.specs.Kinds.{NamedKind, kind_of}
 use Rattle.types.specs.Members.{size, has_member, replica_number}
 use Rattle.model.specs.Entries.{issue_shard}
 use Rattle.model.specs.Replicas.{Replica, is_pending, is_immutable, added, adopted, learned, wedged, inherited, caught_up}
@@ -172,20 +173,20 @@ module _ {Z : ℕ} {v w : List ℕ} (g : WellFormed Z w) {z : ℕ} (a : ShardAli
         let member : has_member (members w z j) p ≡ true = search (and_left, and_right) in
         member_write h (search) (host_short w z j p) (ap caught_up (host_alike hj p member))
 
-    kind_alike : (k : Kind) → (k ≡ Install → ⊥) → (c d : ℕ)
+    kind_alike : (k : NamedKind) → (k ≡ (Ok Install) → ⊥) → (c d : ℕ)
         → SameKind z v w (kind_checks k v z j c d) (kind_checks k w z j c d) (kind_effect k v z j c d) (kind_effect k w z j c d)
     unfolding kind_checks kind_effect
-    kind_alike Add n c d = record { answer = add_answer c; write = add_write c }
-    kind_alike Adopt n c d = record { answer = adopt_answer c; write = adopt_write c }
-    kind_alike Learn n c d = record { answer = learn_answer c d; write = learn_write c d }
-    kind_alike Wedge n c d = record { answer = wedge_answer c; write = wedge_write c }
-    kind_alike Install n c d = absurd (n refl)
-    kind_alike Inherit n c d = record { answer = inherit_answer c d; write = inherit_write c d }
-    kind_alike CatchUp n c d = record { answer = catch_up_answer c d; write = catch_up_write c d }
-    kind_alike Kept n c d = record { answer = refl; write = λ p. nothing refl refl }
-    kind_alike Unknown n c d = record { answer = refl; write = λ p. nothing refl refl }
+    kind_alike (Ok Add) n c d = record { answer = add_answer c; write = add_write c }
+    kind_alike (Ok Adopt) n c d = record { answer = adopt_answer c; write = adopt_write c }
+    kind_alike (Ok Learn) n c d = record { answer = learn_answer c d; write = learn_write c d }
+    kind_alike (Ok Wedge) n c d = record { answer = wedge_answer c; write = wedge_write c }
+    kind_alike (Ok Install) n c d = absurd (n refl)
+    kind_alike (Ok Inherit) n c d = record { answer = inherit_answer c d; write = inherit_write c d }
+    kind_alike (Ok CatchUp) n c d = record { answer = catch_up_answer c d; write = catch_up_write c d }
+    kind_alike (Err Kept) n c d = record { answer = refl; write = λ p. nothing refl refl }
+    kind_alike (Err Unknown) n c d = record { answer = refl; write = λ p. nothing refl refl }
 
-pub step_answer : {v w : List ℕ} → well_formed v ≡ true → well_formed w ≡ true → (s : Step) → ShardAlike (shard_of s) v w → (kind_of s.kind ≡ Install → ⊥)
+pub step_answer : {v w : List ℕ} → well_formed v ≡ true → well_formed w ≡ true → (s : Step) → ShardAlike (shard_of s) v w → (kind_of s.kind ≡ (Ok Install) → ⊥)
     → rejection v s ≡ rejection w s
 unfolding rejection step_checks first_of
 step_answer {v} {w} e f s a n = rw (a.long, e, f, decided (in_range (shards_of (length w)) s) _ _ 7 kinds)
@@ -198,7 +199,7 @@ step_answer {v} {w} e f s a n = rw (a.long, e, f, decided (in_range (shards_of (
         let g = well_formed_lem w (shards_of (length w)) refl (several (length w) (λ q. omega (arith, r.shard, q))) f in
         (kind_alike g a r.shard r.configuration (kind_of s.kind) n s.c s.d).answer
 
-pub step_write : {v w : List ℕ} (s : Step) → Accepted w s → ShardAlike (shard_of s) v w → (kind_of s.kind ≡ Install → ⊥)
+pub step_write : {v w : List ℕ} (s : Step) → Accepted w s → ShardAlike (shard_of s) v w → (kind_of s.kind ≡ (Ok Install) → ⊥)
     → SameWrite (shard_of s) v w (effect v s) (effect w s)
 unfolding effect
 step_write {v} {w} s x a n =

@@ -1,16 +1,17 @@
 -- On two well-formed states that differ in words 3 alone, the checks of every kind pass alike, so every step gets the same answer.
 -- Assumes nothing.
+use Rattle.std.specs.Prelude.{Ok, Err}
 use Prim.Native.Nat.{ℕ, ◌-◌, ◌≤◌, ◌<◌}
 use native.Mathlib.Omega.{arith}
 use mathlib.Core.Path.{◌≡◌, refl, ap, subst}
 use mathlib.Core.Bool.{Bool, true, false, cond}
 use mathlib.Core.List.{List}
 use lib.ListN.{length}
-use Rattle.types.specs.declared.kind.Kind.{Kind}
-use Rattle.types.specs.declared.kind.Kind.TheVariants.{Add, Adopt, Learn, Wedge, Install, Inherit, CatchUp, Kept, Unknown}
+use Rattle.types.specs.declared.kind.Kind.TheVariants.{Add, Adopt, Learn, Wedge, Install, Inherit, CatchUp}
+use Rattle.types.specs.declared.kind.NoKind.TheVariants.{Kept, Unknown}
 use Rattle.types.specs.declared.step.Step.{Step}
 use Rattle.model.specs.Checks.{first_of}
-use Rattle.types.specs.Kinds.{kind_of}
+use Rattle.types.specs.Kinds.{NamedKind, kind_of}
 use Rattle.types.specs.Members.{replica_number}
 use Rattle.model.specs.Entries.{issue_shard}
 use Rattle.model.specs.Replicas.{Replica, is_active, is_pending, is_immutable}
@@ -152,17 +153,17 @@ module _ {v w : List ℕ} (a : OriginsAlone v w) where
 
     -- ---- every kind
 
-    kind_checks_lem : installed w z ≤ 8 → (k : Kind) (c d : ℕ) → kind_checks k v z j c d ≡ kind_checks k w z j c d
+    kind_checks_lem : installed w z ≤ 8 → (k : NamedKind) (c d : ℕ) → kind_checks k v z j c d ≡ kind_checks k w z j c d
     unfolding kind_checks
-    kind_checks_lem l Add c d = add_checks_lem z hj c
-    kind_checks_lem l Adopt c d = adopt_checks_lem z hj c
-    kind_checks_lem l Learn c d = learn_checks_lem z hj c d
-    kind_checks_lem l Wedge c d = wedge_checks_lem z hj c
-    kind_checks_lem l Install c d = install_checks_lem l c d
-    kind_checks_lem l Inherit c d = inherit_checks_lem c d
-    kind_checks_lem l CatchUp c d = catch_up_checks_lem z hj c d
-    kind_checks_lem l Kept c d = refl
-    kind_checks_lem l Unknown c d = refl
+    kind_checks_lem l (Ok Add) c d = add_checks_lem z hj c
+    kind_checks_lem l (Ok Adopt) c d = adopt_checks_lem z hj c
+    kind_checks_lem l (Ok Learn) c d = learn_checks_lem z hj c d
+    kind_checks_lem l (Ok Wedge) c d = wedge_checks_lem z hj c
+    kind_checks_lem l (Ok Install) c d = install_checks_lem l c d
+    kind_checks_lem l (Ok Inherit) c d = inherit_checks_lem c d
+    kind_checks_lem l (Ok CatchUp) c d = catch_up_checks_lem z hj c d
+    kind_checks_lem l (Err Kept) c d = refl
+    kind_checks_lem l (Err Unknown) c d = refl
 
 -- ---- every step
 

@@ -1,5 +1,6 @@
 -- Steps that are accepted on two well-formed states that differ in words 3 alone leave states that differ there alone.
 -- Assumes nothing.
+use Rattle.std.specs.Prelude.{Ok, Err}
 use Prim.Native.Nat.{ℕ, zero, suc, ◌+◌, ◌-◌, ◌*◌, ◌≤◌, ◌<◌}
 use native.Mathlib.Omega.{arith}
 use mathlib.Core.Path.{◌≡◌, refl, sym, subst}
@@ -7,10 +8,10 @@ use mathlib.Core.Bool.{true}
 use mathlib.Core.List.{List, [], ◌∷◌}
 use lib.ListN.{length, length-append, length-set}
 use borrow.Author.Tests.{ltb-true}
-use Rattle.types.specs.declared.kind.Kind.{Kind}
-use Rattle.types.specs.declared.kind.Kind.TheVariants.{Add, Adopt, Learn, Wedge, Install, Inherit, CatchUp, Kept, Unknown}
+use Rattle.types.specs.declared.kind.Kind.TheVariants.{Add, Adopt, Learn, Wedge, Install, Inherit, CatchUp}
+use Rattle.types.specs.declared.kind.NoKind.TheVariants.{Kept, Unknown}
 use Rattle.types.specs.declared.step.Step.{Step}
-use Rattle.types.specs.Kinds.{kind_of}
+use Rattle.types.specs.Kinds.{NamedKind, kind_of}
 use Rattle.types.specs.Members.{size, has_member, replica_number}
 use Rattle.model.specs.Replicas.{Replica, pending, added, adopted, learned, wedged, inherited, caught_up}
 use Rattle.model.specs.Layout.{installed, members, orderer, put_replica, put_head}
@@ -140,17 +141,17 @@ module _ {Z : ℕ} {v w : List ℕ} (f : WellFormed Z v) (a : OriginsAlone v w) 
 
   -- ---- every kind
 
-  kind_alone : (k : Kind) (c d : ℕ) → AllPass (kind_checks k v z j c d) → OriginsAlone (kind_effect k v z j c d) (kind_effect k w z j c d)
+  kind_alone : (k : NamedKind) (c d : ℕ) → AllPass (kind_checks k v z j c d) → OriginsAlone (kind_effect k v z j c d) (kind_effect k w z j c d)
   unfolding kind_checks kind_effect
-  kind_alone Add c d p = add_alone f a hz hj c p
-  kind_alone Adopt c d p = adopt_alone f a hz hj c p
-  kind_alone Learn c d p = learn_alone f a hz hj c d p
-  kind_alone Wedge c d p = wedge_alone f a hz hj c p
-  kind_alone Install c d p = install_alone c d p
-  kind_alone Inherit c d p = inherit_alone f a hz hj c d p
-  kind_alone CatchUp c d p = catch_up_alone f a hz hj c d p
-  kind_alone Kept c d p = a
-  kind_alone Unknown c d p = a
+  kind_alone (Ok Add) c d p = add_alone f a hz hj c p
+  kind_alone (Ok Adopt) c d p = adopt_alone f a hz hj c p
+  kind_alone (Ok Learn) c d p = learn_alone f a hz hj c d p
+  kind_alone (Ok Wedge) c d p = wedge_alone f a hz hj c p
+  kind_alone (Ok Install) c d p = install_alone c d p
+  kind_alone (Ok Inherit) c d p = inherit_alone f a hz hj c d p
+  kind_alone (Ok CatchUp) c d p = catch_up_alone f a hz hj c d p
+  kind_alone (Err Kept) c d p = a
+  kind_alone (Err Unknown) c d p = a
 
 pub effect_alone : {v w : List ℕ} → OriginsAlone v w → (s : Step) → Accepted v s → OriginsAlone (effect v s) (effect w s)
 unfolding effect

@@ -1,4 +1,5 @@
 -- Every step keeps a well-formed state well-formed, and every state as long as it is.
+use Rattle.std.specs.Prelude.{Ok, Err}
 use Prim.Native.Nat.{ℕ, ◌<◌}
 use mathlib.Core.Path.{◌≡◌, refl, sym, ◌∙◌, subst}
 use mathlib.Core.Bool.{true}
@@ -7,10 +8,10 @@ use native.Mathlib.Decide.{ℕ_discrete}
 use lib.Dec.{eqb}
 use lib.ListN.{length}
 use borrow.Author.Tests.{ltb-true, eq-eqb, ne_eqb}
-use Rattle.types.specs.declared.kind.Kind.{Kind}
-use Rattle.types.specs.declared.kind.Kind.TheVariants.{Add, Adopt, Learn, Wedge, Install, Inherit, CatchUp, Kept, Unknown}
+use Rattle.types.specs.declared.kind.Kind.TheVariants.{Add, Adopt, Learn, Wedge, Install, Inherit, CatchUp}
+use Rattle.types.specs.declared.kind.NoKind.TheVariants.{Kept, Unknown}
 use Rattle.types.specs.declared.step.Step.{Step}
-use Rattle.types.specs.Kinds.{kind_of}
+use Rattle.types.specs.Kinds.{NamedKind, kind_of}
 use Rattle.types.specs.Members.{is_host}
 use Rattle.model.specs.Entries.{is_entry}
 use Rattle.model.specs.Layout.{shards_of}
@@ -22,18 +23,18 @@ use Rattle.model.proofs.WellFormed.{WellFormed, size_of, well_formed_lem, is_wel
 use Rattle.model.proofs.WellFormedReplicas.{add_keeps, adopt_keeps, learn_keeps, wedge_keeps, inherit_keeps, catch_up_keeps}
 use Rattle.model.proofs.WellFormedInstall.{install_keeps}
 
-kind_keeps : (k : Kind) {Z : ℕ} {w : List ℕ} → WellFormed Z w → {z j : ℕ} → z < Z → j < 8 → (c d : ℕ) → are_numbers k Z c d ≡ true
+kind_keeps : (k : NamedKind) {Z : ℕ} {w : List ℕ} → WellFormed Z w → {z j : ℕ} → z < Z → j < 8 → (c d : ℕ) → are_numbers k Z c d ≡ true
     → AllPass (kind_checks k w z j c d) → WellFormed Z (kind_effect k w z j c d)
 unfolding are_numbers is_host kind_checks kind_effect
-kind_keeps Add {Z} f hz hj c d n p = add_keeps f hz hj c ((both (is_entry Z c) (eqb d 0)).0 n).0 p
-kind_keeps Adopt f hz hj c d n p = adopt_keeps f hz hj c p
-kind_keeps Learn f hz hj c d n p = learn_keeps f hz hj c d p
-kind_keeps Wedge f hz hj c d n p = wedge_keeps f hz hj c p
-kind_keeps Install f hz hj c d n p = install_keeps f hz hj c d p
-kind_keeps Inherit f hz hj c d n p = inherit_keeps f hz hj c d (ltb-true d 16 ((both (is_host c) (is_host d)).0 n).1) p
-kind_keeps CatchUp f hz hj c d n p = catch_up_keeps f hz hj c d p
-kind_keeps Kept f hz hj c d n p = f
-kind_keeps Unknown f hz hj c d n p = f
+kind_keeps (Ok Add) {Z} f hz hj c d n p = add_keeps f hz hj c ((both (is_entry Z c) (eqb d 0)).0 n).0 p
+kind_keeps (Ok Adopt) f hz hj c d n p = adopt_keeps f hz hj c p
+kind_keeps (Ok Learn) f hz hj c d n p = learn_keeps f hz hj c d p
+kind_keeps (Ok Wedge) f hz hj c d n p = wedge_keeps f hz hj c p
+kind_keeps (Ok Install) f hz hj c d n p = install_keeps f hz hj c d p
+kind_keeps (Ok Inherit) f hz hj c d n p = inherit_keeps f hz hj c d (ltb-true d 16 ((both (is_host c) (is_host d)).0 n).1) p
+kind_keeps (Ok CatchUp) f hz hj c d n p = catch_up_keeps f hz hj c d p
+kind_keeps (Err Kept) f hz hj c d n p = f
+kind_keeps (Err Unknown) f hz hj c d n p = f
 
 -- an accepted step's state, and what it leaves
 pub accepted_formed : (w : List ℕ) (s : Step) → Accepted w s → WellFormed (shards_of (length w)) w

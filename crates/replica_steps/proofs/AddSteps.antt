@@ -1,5 +1,6 @@
 -- An add, by the words that the code looks at: what it answers and leaves.
 -- Assumes nothing.
+use Rattle.std.specs.Prelude.{Ok}
 use Prim.Native.Nat.{ℕ, ◌+◌, ◌≤◌, ◌<◌}
 use native.Mathlib.Omega.{arith}
 use mathlib.Core.Path.{◌≡◌, refl, sym, ap, subst, ◌∙◌}
@@ -31,12 +32,12 @@ use Rattle.lookup.proofs.KindAnswers.{in_range_lem, rejects, accepts}
 use Rattle.replica_steps.specs.Adds.{FormedEntry, ReadyAdd, held_checks}
 use Rattle.replica_steps.proofs.AddStores.{store_added}
 
-pub known : Known Add
+pub known : Known (Ok Add)
 unfolding is_kept is_unknown
 known = record { not_kept = refl; known = refl }
 
 -- the numbers were tested, and are in range
-module _ {w : List ℕ} {n z j o : ℕ} (p : ReadyAdd w n z j o) (e d : ℕ) {b : Bool} (test : b ≡ are_numbers Add n e d) (x : not b ≡ false) where
+module _ {w : List ℕ} {n z j o : ℕ} (p : ReadyAdd w n z j o) (e d : ℕ) {b : Bool} (test : b ≡ are_numbers (Ok Add) n e d) (x : not b ≡ false) where
   pub named : ReadyHost w z j o
   named = record { ready = p.kind.ready; host = rw p.ordered (orderer_host p.kind.ready) }
 
@@ -45,7 +46,7 @@ module _ {w : List ℕ} {n z j o : ℕ} (p : ReadyAdd w n z j o) (e d : ℕ) {b 
   proper =
       record {
         state = p.kind.ready.state;
-        entry = (numbers_tell Add known (shards_of (length w)) e d (in_range_lem Add p.kind e d test x)).0;
+        entry = (numbers_tell (Ok Add) known (shards_of (length w)) e d (in_range_lem (Ok Add) p.kind e d test x)).0;
       }
 
   -- r is the replica that was found
@@ -61,9 +62,9 @@ module _ {w : List ℕ} {n z j o : ℕ} (p : ReadyAdd w n z j o) (e d : ℕ) {b 
             absurd (m (ap (λ (q : Found). q.answer) s ∙ rw (i, p.ordered, h)))
         go false i = ap (λ (q : Found). q.answer) s ∙ rw i
 
-    pub nowhere : (r.answer ≡ 0 → ⊥) → (r.answer ≡ kind_answer Add w z j e d) × (w ≡ kind_after Add w z j e d)
+    pub nowhere : (r.answer ≡ 0 → ⊥) → (r.answer ≡ kind_answer (Ok Add) w z j e d) × (w ≡ kind_after (Ok Add) w z j e d)
     unfolding kind_checks
-    nowhere m = rejects Add p.kind e d test x (not_there m) m
+    nowhere m = rejects (Ok Add) p.kind e d test x (not_there m) m
 
     module _ (a : r.answer ≡ 0) where
       at : At w z j (orderer w z j) r.place
@@ -78,17 +79,17 @@ module _ {w : List ℕ} {n z j o : ℕ} (p : ReadyAdd w n z j o) (e d : ℕ) {b 
       pub holds_it : Placed w r.place → HoldsReplica w r.place
       holds_it f = record { placed = f; words = words }
 
-      pub not_active : (get_or w r.place 0 ≡ 2 → ⊥) → (12 ≡ kind_answer Add w z j e d) × (w ≡ kind_after Add w z j e d)
+      pub not_active : (get_or w r.place 0 ≡ 2 → ⊥) → (12 ≡ kind_answer (Ok Add) w z j e d) × (w ≡ kind_after (Ok Add) w z j e d)
       unfolding kind_checks add_checks first_of
       not_active m =
-          rejects Add p.kind e d test x (simp (at.there, replica_is, active_word, ne_eqb _ _ m)) (λ q. omega arith)
+          rejects (Ok Add) p.kind e d test x (simp (at.there, replica_is, active_word, ne_eqb _ _ m)) (λ q. omega arith)
 
       -- t is the test of the sequencer
       module _ (active : get_or w r.place 0 ≡ 2) {t : Bool} (g : t ≡ may_issue w z e) where
-        pub not_sequencer : not t ≡ true → (17 ≡ kind_answer Add w z j e d) × (w ≡ kind_after Add w z j e d)
+        pub not_sequencer : not t ≡ true → (17 ≡ kind_answer (Ok Add) w z j e d) × (w ≡ kind_after (Ok Add) w z j e d)
         unfolding kind_checks add_checks first_of
         not_sequencer m =
-            rejects Add p.kind e d test x
+            rejects (Ok Add) p.kind e d test x
             (simp (at.there, replica_is, active_word, eq-eqb _ _ active, sym g ∙ not-true t m))
             (λ q. omega arith)
 
@@ -105,10 +106,10 @@ module _ {w : List ℕ} {n z j o : ℕ} (p : ReadyAdd w n z j o) (e d : ℕ) {b 
           unfolding add_checks held_checks held room first_of
           are_left = rw (at.there, replica_is, active_word w r.place, eq-eqb _ _ active, sym g ∙ not-false t may)
 
-          pub against : (u ≡ 0 → ⊥) → (u ≡ kind_answer Add w z j e d) × (w ≡ kind_after Add w z j e d)
+          pub against : (u ≡ 0 → ⊥) → (u ≡ kind_answer (Ok Add) w z j e d) × (w ≡ kind_after (Ok Add) w z j e d)
           unfolding kind_checks held
           against m =
-              rejects Add p.kind e d test x (f ∙ sym (first_before held room (λ q. m (f ∙ q))) ∙ sym are_left) m
+              rejects (Ok Add) p.kind e d test x (f ∙ sym (first_before held room (λ q. m (f ∙ q))) ∙ sym are_left) m
 
           module _ (free : u ≡ 0) where
             passes : AllPass held
@@ -122,14 +123,14 @@ module _ {w : List ℕ} {n z j o : ℕ} (p : ReadyAdd w n z j o) (e d : ℕ) {b 
             unfolding room first_of
             left = are_left ∙ first_after held room passes ∙ rw long
 
-            pub full : 56 ≤ get_or w (r.place + 1) 0 → (16 ≡ kind_answer Add w z j e d) × (w ≡ kind_after Add w z j e d)
+            pub full : 56 ≤ get_or w (r.place + 1) 0 → (16 ≡ kind_answer (Ok Add) w z j e d) × (w ≡ kind_after (Ok Add) w z j e d)
             unfolding kind_checks
-            full q = rejects Add p.kind e d test x (rw (left, le-ltb _ _ q)) (λ o. omega arith)
+            full q = rejects (Ok Add) p.kind e d test x (rw (left, le-ltb _ _ q)) (λ o. omega arith)
 
-            pub done : get_or w (r.place + 1) 0 < 56 → (0 ≡ kind_answer Add w z j e d)
-                × (set (set w (r.place + 8 + get_or w (r.place + 1) 0) e) (r.place + 1) (get_or w (r.place + 1) 0 + 1) ≡ kind_after Add w z j e d)
+            pub done : get_or w (r.place + 1) 0 < 56 → (0 ≡ kind_answer (Ok Add) w z j e d)
+                × (set (set w (r.place + 8 + get_or w (r.place + 1) 0) e) (r.place + 1) (get_or w (r.place + 1) 0 + 1) ≡ kind_after (Ok Add) w z j e d)
             unfolding kind_checks kind_effect add_effect orderer_place configuration
             done q =
-                accepts Add p.kind e d test x (rw (left, lt-ltb _ _ q))
+                accepts (Ok Add) p.kind e d test x (rw (left, lt-ltb _ _ q))
                 (store_added w r.place e (get_or w (r.place + 1) 0) (replica_at w r.place) words (length_word w r.place words) q
                 ∙ rw (at.place_is, replica_is))

@@ -6,11 +6,10 @@ use mathlib.Core.Path.{◌≡◌, refl, sym, ap, ◌∙◌}
 use mathlib.Core.Bool.{Bool, true, false, cond, not, and-true, and-false}
 use lib.Dec.{ltb}
 use borrow.Author.Tests.{le-leb, lt-leb, not-true, not-false}
-use Rattle.types.specs.declared.kind.Kind.{Kind}
 use Rattle.types.specs.declared.kind.Rules.{Rules}
 use Rattle.types.specs.declared.step.Step.{Step}
 use Rattle.model.specs.Checks.{first_of}
-use Rattle.types.specs.Kinds.{kind_of, is_kept, is_unknown, names_host, kind_rejection}
+use Rattle.types.specs.Kinds.{NamedKind, kind_of, is_kept, is_unknown, names_host, kind_rejection}
 use Rattle.types.specs.Rules.{Known, most_fourth, rules_of}
 use Rattle.types.specs.Members.{is_host}
 use Rattle.model.specs.Entries.{is_entry}
@@ -22,7 +21,7 @@ use Rattle.step_numbers.specs.StepRanges.{is_index_of, range_rejection}
 
 -- ---- the third and the fourth number of a kind k, whose rules are r
 
-module _ (k : Kind) (h : Known k) {r : Rules} (e : r ≡ rules_of k) (Z c d : ℕ) where
+module _ (k : NamedKind) (h : Known k) {r : Rules} (e : r ≡ rules_of k) (Z c d : ℕ) where
   most_is : r.fourth ≡ most_fourth k
   unfolding rules_of
   most_is = ap (λ (x : Rules). x.fourth) e
@@ -53,7 +52,7 @@ first_two true u n m = refl
 first_two false true n m = refl
 first_two false false n m = absurd (m refl)
 
-module _ (Z : ℕ) (s : Step) {k : Kind} {r : Rules} (o : k ≡ kind_of s.kind) (e : r ≡ rules_of k) where
+module _ (Z : ℕ) (s : Step) {k : NamedKind} {r : Rules} (o : k ≡ kind_of s.kind) (e : r ≡ rules_of k) where
   pub bad_kind : (r.rejection ≡ 0 → ⊥) → r.rejection ≡ range_rejection Z s
   unfolding range_rejection first_of kind_rejection
   bad_kind n =

@@ -1,4 +1,5 @@
 -- The answer of a list of checks is at most a bound on their numbers, so a step's is at most 24. Assumes nothing.
+use Rattle.std.specs.Prelude.{Ok, Err}
 use Prim.Native.Nat.{ℕ, ◌≤◌}
 use native.Mathlib.Omega.{arith}
 use mathlib.Core.Path.{◌≡◌, refl}
@@ -6,11 +7,11 @@ use mathlib.Core.Bool.{Bool, true, false, cond, ◌&&◌}
 use mathlib.Core.List.{List, [], ◌∷◌}
 use lib.Dec.{leb}
 use borrow.Author.Tests.{leb-true}
-use Rattle.types.specs.declared.kind.Kind.{Kind}
-use Rattle.types.specs.declared.kind.Kind.TheVariants.{Add, Adopt, Learn, Wedge, Install, Inherit, CatchUp, Kept, Unknown}
+use Rattle.types.specs.declared.kind.Kind.TheVariants.{Add, Adopt, Learn, Wedge, Install, Inherit, CatchUp}
+use Rattle.types.specs.declared.kind.NoKind.TheVariants.{Kept, Unknown}
 use Rattle.types.specs.declared.step.Step.{Step}
 use Rattle.model.specs.Checks.{Check, first_of}
-use Rattle.types.specs.Kinds.{kind_of}
+use Rattle.types.specs.Kinds.{NamedKind, kind_of}
 use Rattle.model.specs.Add.{add_checks}
 use Rattle.model.specs.Adopt.{adopt_checks}
 use Rattle.model.specs.Learn.{learn_checks}
@@ -38,17 +39,17 @@ first_most m (c ∷ cs) e =
     either true h l = h
     either false h l = l
 
-kind_most : (k : Kind) (w : List ℕ) (z j c d : ℕ) → are_at_most 24 (kind_checks k w z j c d) ≡ true
+kind_most : (k : NamedKind) (w : List ℕ) (z j c d : ℕ) → are_at_most 24 (kind_checks k w z j c d) ≡ true
 unfolding kind_checks add_checks adopt_checks learn_checks wedge_checks install_checks inherit_checks catch_up_checks
-kind_most Add w z j c d = refl
-kind_most Adopt w z j c d = refl
-kind_most Learn w z j c d = refl
-kind_most Wedge w z j c d = refl
-kind_most Install w z j c d = refl
-kind_most Inherit w z j c d = refl
-kind_most CatchUp w z j c d = refl
-kind_most Kept w z j c d = refl
-kind_most Unknown w z j c d = refl
+kind_most (Ok Add) w z j c d = refl
+kind_most (Ok Adopt) w z j c d = refl
+kind_most (Ok Learn) w z j c d = refl
+kind_most (Ok Wedge) w z j c d = refl
+kind_most (Ok Install) w z j c d = refl
+kind_most (Ok Inherit) w z j c d = refl
+kind_most (Ok CatchUp) w z j c d = refl
+kind_most (Err Kept) w z j c d = refl
+kind_most (Err Unknown) w z j c d = refl
 
 pub rejection_most : (w : List ℕ) (s : Step) → rejection w s ≤ 24
 unfolding rejection step_checks

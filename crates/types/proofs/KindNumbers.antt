@@ -1,4 +1,5 @@
 -- Kinds by their numbers: which are known, and that a number names its kind's number and rejection.
+use Rattle.std.specs.Prelude.{Ok, Err}
 use Prim.Native.Nat.{ℕ, zero, suc, ◌≤◌, ◌<◌}
 use native.Mathlib.Decide.{dec_lt}
 use native.Mathlib.Omega.{arith}
@@ -7,25 +8,25 @@ use mathlib.Core.Path.{◌≡◌, refl, ap, ◌∙◌}
 use mathlib.Core.Bool.{Bool, true, false, cond, true≢false}
 use lib.Dec.{leb}
 use borrow.Author.Tests.{leb-false, le-leb, lt-leb, lt-ltb, ne_eqb}
-use Rattle.types.specs.declared.kind.Kind.{Kind}
-use Rattle.types.specs.declared.kind.Kind.TheVariants.{Add, Adopt, Learn, Wedge, Install, Inherit, CatchUp, Kept, Unknown}
-use Rattle.types.specs.Kinds.{kind_of, is_kept, is_unknown, used_numbers, kind_number, kind_rejection, number_named, rejection_named}
+use Rattle.types.specs.declared.kind.Kind.TheVariants.{Add, Adopt, Learn, Wedge, Install, Inherit, CatchUp}
+use Rattle.types.specs.declared.kind.NoKind.TheVariants.{Kept, Unknown}
+use Rattle.types.specs.Kinds.{NamedKind, kind_of, is_kept, is_unknown, used_numbers, kind_number, kind_rejection, number_named, rejection_named, Names}
 
 -- a kind that the writer accepts uses three numbers or four
-pub used_cases : (k : Kind) → is_kept k ≡ false → is_unknown k ≡ false → (used_numbers k ≡ 3) ⊎ (used_numbers k ≡ 4)
+pub used_cases : (k : NamedKind) → is_kept k ≡ false → is_unknown k ≡ false → (used_numbers k ≡ 3) ⊎ (used_numbers k ≡ 4)
 unfolding is_kept is_unknown used_numbers
-used_cases Add e f = inl refl
-used_cases Adopt e f = inl refl
-used_cases Learn e f = inr refl
-used_cases Wedge e f = inl refl
-used_cases Install e f = inr refl
-used_cases Inherit e f = inr refl
-used_cases CatchUp e f = inr refl
-used_cases Kept e f = absurd (true≢false e)
-used_cases Unknown e f = absurd (true≢false f)
+used_cases (Ok Add) e f = inl refl
+used_cases (Ok Adopt) e f = inl refl
+used_cases (Ok Learn) e f = inr refl
+used_cases (Ok Wedge) e f = inl refl
+used_cases (Ok Install) e f = inr refl
+used_cases (Ok Inherit) e f = inr refl
+used_cases (Ok CatchUp) e f = inr refl
+used_cases (Err Kept) e f = absurd (true≢false e)
+used_cases (Err Unknown) e f = absurd (true≢false f)
 
 -- 8 and above name no step
-pub late_kind : (n : ℕ) → 8 ≤ n → kind_of n ≡ cond (leb n 31) Kept Unknown
+pub late_kind : (n : ℕ) → 8 ≤ n → kind_of n ≡ cond (leb n 31) (Err Kept) (Err Unknown)
 unfolding kind_of
 late_kind n h =
     simp (
@@ -44,7 +45,7 @@ pub kind_below : (n : ℕ) → is_kept (kind_of n) ≡ false → is_unknown (kin
 unfolding is_kept is_unknown
 kind_below n e f = elim (dec_lt n 8) [ yes l ↦ l | no l ↦ late (leb n 31) (late_kind n (omega arith)) ]
   where
-    late : (t : Bool) → kind_of n ≡ cond t Kept Unknown → n < 8
+    late : (t : Bool) → kind_of n ≡ cond t (Err Kept) (Err Unknown) → n < 8
     late true g = absurd (true≢false (rw g at e))
     late false g = absurd (true≢false (rw g at f))
 
@@ -74,8 +75,7 @@ late_named n h = go (leb n 31) refl
         simp (late_kind n h, q, le-leb 1 n (omega arith), le-leb 8 n h, lt-leb n 7 h, ne_eqb n 0 (λ e. omega arith), lt-ltb 31 n (leb-false n 31 q))
         (refl, refl)
 
-pub names_kind : {k : Kind} (n : ℕ) → k ≡ kind_of n
-    → (kind_number k ≡ number_named n) × ((kind_rejection k ≡ rejection_named n) × (k ≡ kind_of n))
+pub names_kind : {k : NamedKind} (n : ℕ) → k ≡ kind_of n → Names n k
 names_kind n e =
     let m : Named n = elim (dec_lt n 8) [ yes l ↦ early_named n l | no l ↦ late_named n (omega arith) ] in
-    (ap kind_number e ∙ m.0, (ap kind_rejection e ∙ m.1, e))
+    record { number = ap kind_number e ∙ m.0; rejection = ap kind_rejection e ∙ m.1; kind = e }

@@ -1,36 +1,32 @@
 -- What the code looks up of a kind.
+use Rattle.std.specs.Prelude.{Ok, Err}
 use Prim.Native.Nat.{ℕ, zero, suc, ◌/◌, ◌%◌, ◌^◌, ◌≤◌, ◌<◌}
 use native.Mathlib.Omega.{arith}
-use mathlib.Core.Path.{◌≡◌, refl, ap, sym, ◌∙◌}
+use mathlib.Core.Path.{◌≡◌, refl, subst}
 use mathlib.Core.Bool.{Bool, true, false, cond, true≢false}
 use lib.Dec.{leb}
+use Rattle.types.specs.declared.kind.Kind.TheVariants.{Add, Adopt, Learn, Wedge, Install, Inherit, CatchUp}
+use Rattle.types.specs.declared.kind.NoKind.TheVariants.{Kept, Unknown}
 use Rattle.types.specs.declared.kind.Kind.{Kind}
-use Rattle.types.specs.declared.kind.Kind.TheVariants.{Add, Adopt, Learn, Wedge, Install, Inherit, CatchUp, Kept, Unknown}
-use Rattle.types.specs.declared.kind.Rules.{Rules}
-use Rattle.types.specs.Kinds.{kind_of, is_kept, is_unknown, used_numbers, kind_rejection}
-use Rattle.types.specs.Rules.{Known, rules_of, fourth_numbers}
+use Rattle.types.specs.Kinds.{NamedKind, kind_of, is_kept, is_unknown, used_numbers}
+use Rattle.types.specs.Rules.{Known, fourth_numbers}
 use Rattle.types.proofs.KindNumbers.{kind_below}
 
 -- ---- known kinds
 
-neither : (t u : Bool) → ◌≡◌ {A = ℕ} (cond t 3 (cond u 4 0)) 0 → (t ≡ false) × (u ≡ false)
-neither true u e = absurd (omega arith)
-neither false true e = absurd (omega arith)
-neither false false e = (refl, refl)
+known : (k : Kind) → Known (Ok k)
+unfolding is_kept is_unknown
+known Add = record { not_kept = refl; known = refl }
+known Adopt = record { not_kept = refl; known = refl }
+known Learn = record { not_kept = refl; known = refl }
+known Wedge = record { not_kept = refl; known = refl }
+known Install = record { not_kept = refl; known = refl }
+known Inherit = record { not_kept = refl; known = refl }
+known CatchUp = record { not_kept = refl; known = refl }
 
--- a kind without a rejection is known
-pub kind_known : (k : Kind) → kind_rejection k ≡ 0 → Known k
-unfolding kind_rejection
-kind_known k e = let n = neither (is_kept k) (is_unknown k) e in record { not_kept = n.0; known = n.1 }
-
--- r is what was looked up of the kind k that the number n names
-module _ (n : ℕ) {k : Kind} (o : k ≡ kind_of n) {r : Rules} (e : r ≡ rules_of k) where
-  pub rejection_told : r.rejection ≡ kind_rejection (kind_of n)
-  unfolding rules_of
-  rejection_told = ap (λ (x : Rules). x.rejection) e ∙ ap kind_rejection o
-
-  pub known_told : r.rejection ≡ 0 → Known (kind_of n)
-  known_told z = kind_known (kind_of n) (sym rejection_told ∙ z)
+-- a kind that was read is known
+pub ok_known : (n : ℕ) (k : Kind) → Ok k ≡ kind_of n → Known (kind_of n)
+ok_known n k e = subst (λ (x : NamedKind). Known x) e (known k)
 
 -- ---- how many numbers a kind uses
 
@@ -43,17 +39,17 @@ pub fourth_most : (n : ℕ) → fourth_numbers n ≤ 1
 unfolding fourth_numbers
 fourth_most n = either_most (leb 4 (used_numbers (kind_of n)))
 
-used_cases : (k : Kind) → Known k → used_numbers k ≡ suc (suc (suc (cond (leb 4 (used_numbers k)) 1 0)))
+used_cases : (k : NamedKind) → Known k → used_numbers k ≡ suc (suc (suc (cond (leb 4 (used_numbers k)) 1 0)))
 unfolding is_kept is_unknown used_numbers
-used_cases Add h = refl
-used_cases Adopt h = refl
-used_cases Learn h = refl
-used_cases Wedge h = refl
-used_cases Install h = refl
-used_cases Inherit h = refl
-used_cases CatchUp h = refl
-used_cases Kept h = absurd (true≢false h.not_kept)
-used_cases Unknown h = absurd (true≢false h.known)
+used_cases (Ok Add) h = refl
+used_cases (Ok Adopt) h = refl
+used_cases (Ok Learn) h = refl
+used_cases (Ok Wedge) h = refl
+used_cases (Ok Install) h = refl
+used_cases (Ok Inherit) h = refl
+used_cases (Ok CatchUp) h = refl
+used_cases (Err Kept) h = absurd (true≢false h.not_kept)
+used_cases (Err Unknown) h = absurd (true≢false h.known)
 
 -- three numbers, and the fourth
 pub used_fourth : (n : ℕ) → Known (kind_of n) → used_numbers (kind_of n) ≡ suc (suc (suc (fourth_numbers n)))

@@ -1,3 +1,4 @@
 -- The laws that the functions' proofs cite.
 pub mod KindNumbers
 pub mod KindRules
+pub mod Rejections

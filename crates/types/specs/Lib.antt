@@ -1,5 +1,6 @@
 -- What the functions on the shared types answer.
 pub mod Kinds
+pub mod Rejections
 pub mod Rules
 pub mod StepNames
 pub mod Members

@@ -1,9 +1,9 @@
 // The kind of a step, told from its number: the one match on kind numbers, and the one match on kinds that says what their steps have.
-ghost use Rattle.std.specs.Prelude.{◌≡◌};
-ghost use Rattle.types.specs.Kinds.{kind_of, used_numbers, kind_number, kind_rejection, number_named, rejection_named};
+ghost use Rattle.std.specs.Prelude.{◌≡◌, Ok};
+ghost use Rattle.types.specs.Kinds.{kind_of, used_numbers, Names};
 ghost use Rattle.types.specs.Rules.{Known, rules_of, rules_with, fourth_numbers};
 
-#[derive(Clone, Copy)]
+#[derive(Clone, Copy, Debug, PartialEq, Eq)]
 pub enum Kind {
     Add,
     Adopt,
@@ -12,15 +12,19 @@ pub enum Kind {
     Install,
     Inherit,
     CatchUp,
+}
+
+// Why a number is no kind's: it is kept for later, or unknown.
+#[derive(Clone, Copy, Debug, PartialEq, Eq)]
+pub enum NoKind {
     Kept,
     Unknown,
 }
 
-// What the steps of a kind have: the rejection of the kind (3, 4, or 0), how many numbers it uses, the largest fourth number (0 where it uses
-// none), and whether the third number is the acting host.
-#[derive(Clone, Copy)]
+// What the steps of a kind have: how many numbers they use, the largest fourth number (0 where they use none), and whether the third number is the
+// acting host.
+#[derive(Clone, Copy, Debug, PartialEq, Eq)]
 pub struct Rules {
-    pub rejection: u64,
     pub used: usize,
     pub fourth: u64,
     pub host: bool,
@@ -29,41 +33,42 @@ pub struct Rules {
 // The bits of learn, install, inherit and catch up, 3, 5, 6 and 7.
 const FOURTHS: u64 = 232;
 
-impl Kind {
-    // The kind that a number names: its own number and rejection, and the kind itself.
-    pub fn of(number: u64) -> Self
-        ensures result_value { kind_number result ≡ number_named number }
-        ensures result_value_2 { kind_rejection result ≡ rejection_named number }
-        ensures value { result ≡ kind_of number }
-    {
+impl TryFrom<u64> for Kind {
+    type Error = NoKind;
+
+    ghost try_from_gives = { Names };
+
+    // The kind that a number names.
+    fn try_from(number: u64) -> Result<Self, NoKind> {
         match number {
-            1 => Kind::Add,
-            2 => Kind::Adopt,
-            3 => Kind::Learn,
-            4 => Kind::Wedge,
-            5 => Kind::Install,
-            6 => Kind::Inherit,
-            7 => Kind::CatchUp,
-            8..=31 => Kind::Kept,
-            0 => Kind::Unknown,
-            _ => Kind::Unknown,
+            1 => Ok(Kind::Add),
+            2 => Ok(Kind::Adopt),
+            3 => Ok(Kind::Learn),
+            4 => Ok(Kind::Wedge),
+            5 => Ok(Kind::Install),
+            6 => Ok(Kind::Inherit),
+            7 => Ok(Kind::CatchUp),
+            8..=31 => Err(NoKind::Kept),
+            0 => Err(NoKind::Unknown),
+            _ => Err(NoKind::Unknown),
         }
     }
+}
 
+impl Kind {
     // What the steps of this kind have.
+    #[tactic(auto, unfolding(crate::specs::Rules::rules_of, crate::specs::Rules::most_fourth, crate::specs::Kinds::used_numbers, crate::specs::Kinds::names_host))]
     pub fn rules(self) -> Rules
-        ensures { result ≡ rules_of self }
+        ensures { result ≡ rules_of (Ok self) }
     {
         match self {
-            Kind::Add => row(0, 3, 0, false),
-            Kind::Adopt => row(0, 3, 0, true),
-            Kind::Learn => row(0, 4, 56, true),
-            Kind::Wedge => row(0, 3, 0, true),
-            Kind::Install => row(0, 4, 55, true),
-            Kind::Inherit => row(0, 4, 15, true),
-            Kind::CatchUp => row(0, 4, 15, true),
-            Kind::Kept => row(3, 0, 0, true),
-            Kind::Unknown => row(4, 0, 0, true),
+            Kind::Add => row(3, 0, false),
+            Kind::Adopt => row(3, 0, true),
+            Kind::Learn => row(4, 56, true),
+            Kind::Wedge => row(3, 0, true),
+            Kind::Install => row(4, 55, true),
+            Kind::Inherit => row(4, 15, true),
+            Kind::CatchUp => row(4, 15, true),
         }
     }
 
@@ -77,20 +82,15 @@ impl Kind {
 
     // How many numbers a step of this kind uses.
     pub fn used(self) -> usize
-        ensures { result ≡ used_numbers self }
+        ensures { result ≡ used_numbers (Ok self) }
     {
         self.rules().used
     }
 }
 
 // One row of the table of rules.
-fn row(rejection: u64, used: usize, fourth: u64, host: bool) -> Rules
-    ensures { result ≡ rules_with rejection used fourth host }
+fn row(used: usize, fourth: u64, host: bool) -> Rules
+    ensures { result ≡ rules_with used fourth host }
 {
-    Rules {
-        rejection,
-        used,
-        fourth,
-        host,
-    }
+    Rules { used, fourth, host }
 }

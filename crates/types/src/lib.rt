@@ -5,42 +5,36 @@
 pub mod configuration;
 pub mod kind;
 pub mod layout;
+pub mod rejection;
 pub mod step;
 
-// What reading one number of a log gives: its value and its count of bytes, or the rejection (5 or 6).
-#[derive(Clone, Copy)]
-pub enum Number {
-    Value { value: u64, bytes: usize },
-    Rejected(u64),
+use rejection::Rejection;
+use step::Step;
+
+// A number that was read from a log, and its count of bytes.
+#[derive(Clone, Copy, Debug, PartialEq, Eq)]
+pub struct Number {
+    pub value: u64,
+    pub bytes: usize,
 }
 
-// What reading one step of a log gives: the step and the position after it (at the log's start, its count of bytes), the end, or the rejection (3 to 6).
-#[derive(Clone, Copy)]
-pub enum Reading {
-    Step { step: step::Step, next: usize },
-    End,
-    Rejected(u64),
+// A step that was read from a log, and the position after it (at the log's start, its count of bytes).
+#[derive(Clone, Copy, Debug, PartialEq, Eq)]
+pub struct Reading {
+    pub step: Step,
+    pub next: usize,
 }
 
-// What writing to an output gives: the count of bytes, or the rejection: of a step 3, 4, 7 or 8, of the text for spreadsheets 1, 9 or 8, of the
-// transcript 8.
-#[derive(Clone, Copy)]
-pub enum Writing {
-    Bytes(usize),
-    Rejected(u64),
-}
-
-// How a replay stopped: no bytes left, its budget used up, at damaged bytes (3 to 6), or before its first step (1 or 9).
-#[derive(Clone, Copy)]
+// How a replay stopped: no bytes left, its budget used up, or at damaged bytes (3 to 6).
+#[derive(Clone, Copy, Debug, PartialEq, Eq)]
 pub enum Stop {
     Ended,
     Spent,
-    Damaged(u64),
-    Rejected(u64),
+    Damaged(Rejection),
 }
 
 // What a replay returns: how it stopped, the steps tried, those rejected, and the bytes of whole steps read.
-#[derive(Clone, Copy)]
+#[derive(Clone, Copy, Debug, PartialEq, Eq)]
 pub struct Report {
     pub stop: Stop,
     pub tried: u64,

@@ -5,7 +5,8 @@ ghost use Rattle.types.specs.StepNames.{shard_of, acting_host};
 
 use crate::kind::Kind;
 
-#[derive(Clone, Copy)]
+// The kind is any number: a step of no kind is tried too, and rejected.
+#[derive(Clone, Copy, Debug, PartialEq, Eq)]
 pub struct Step {
     pub kind: u64,
     pub a: u64,
@@ -26,17 +27,20 @@ impl Step {
     pub fn host(self, orderer: u64) -> u64
         ensures { result ≡ acting_host self orderer }
     {
-        if Kind::of(self.kind).rules().host {
-            self.c
-        } else {
-            orderer
+        match Kind::try_from(self.kind) {
+            Ok(kind) if kind.rules().host => self.c,
+            Ok(_) => orderer,
+            Err(_) => self.c,
         }
     }
 
-    // How many numbers the step uses.
+    // How many numbers the step uses, none where its kind is no kind's number.
     pub fn used(self) -> usize
         ensures { result ≡ used_numbers (kind_of self.kind) }
     {
-        Kind::of(self.kind).used()
+        match Kind::try_from(self.kind) {
+            Ok(kind) => kind.used(),
+            Err(_) => 0,
+        }
     }
 }

@@ -1,5 +1,6 @@
 -- A wedge, by the words that the code looks at: what it answers and leaves.
 -- Assumes nothing.
+use Rattle.std.specs.Prelude.{Ok}
 use Prim.Native.Nat.{ℕ}
 use native.Mathlib.Omega.{arith}
 use mathlib.Core.Path.{◌≡◌, refl, ◌∙◌}
@@ -23,33 +24,33 @@ use Rattle.lookup.proofs.FoundReplicas.{At, at_found, early, words_at}
 use Rattle.lookup.proofs.Stores.{store_mode}
 use Rattle.lookup.proofs.KindAnswers.{rejects, accepts, ready_host}
 
-pub known : Known Wedge
+pub known : Known (Ok Wedge)
 unfolding is_kept is_unknown
 known = record { not_kept = refl; known = refl }
 
 -- the numbers were tested, and are in range
-module _ {w : List ℕ} {n z j : ℕ} (p : ReadyKind w n z j) (h d : ℕ) {b : Bool} (test : b ≡ are_numbers Wedge n h d) (e : not b ≡ false) where
+module _ {w : List ℕ} {n z j : ℕ} (p : ReadyKind w n z j) (h d : ℕ) {b : Bool} (test : b ≡ are_numbers (Ok Wedge) n h d) (e : not b ≡ false) where
   pub named : ReadyHost w z j h
   unfolding names_host
-  named = ready_host Wedge p h d test e known refl
+  named = ready_host (Ok Wedge) p h d test e known refl
 
   -- r is the replica that was found
   module _ {r : Found} (s : r ≡ found_of w z j h) where
-    pub nowhere : (r.answer ≡ 0 → ⊥) → (r.answer ≡ kind_answer Wedge w z j h d) × (w ≡ kind_after Wedge w z j h d)
+    pub nowhere : (r.answer ≡ 0 → ⊥) → (r.answer ≡ kind_answer (Ok Wedge) w z j h d) × (w ≡ kind_after (Ok Wedge) w z j h d)
     unfolding kind_checks wedge_checks
-    nowhere m = rejects Wedge p h d test e (early w z j h r s _ m) m
+    nowhere m = rejects (Ok Wedge) p h d test e (early w z j h r s _ m) m
 
     module _ (a : r.answer ≡ 0) where
       at : At w z j h r.place
       at = at_found w z j h r s a
 
-      pub not_active : (get_or w r.place 0 ≡ 2 → ⊥) → (12 ≡ kind_answer Wedge w z j h d) × (w ≡ kind_after Wedge w z j h d)
+      pub not_active : (get_or w r.place 0 ≡ 2 → ⊥) → (12 ≡ kind_answer (Ok Wedge) w z j h d) × (w ≡ kind_after (Ok Wedge) w z j h d)
       unfolding kind_checks wedge_checks first_of
       not_active m =
-          rejects Wedge p h d test e (simp (at.there, at.member, at.replica_is, active_word, ne_eqb _ _ m)) (λ q. omega arith)
+          rejects (Ok Wedge) p h d test e (simp (at.there, at.member, at.replica_is, active_word, ne_eqb _ _ m)) (λ q. omega arith)
 
-      pub done : get_or w r.place 0 ≡ 2 → (0 ≡ kind_answer Wedge w z j h d) × (set w r.place 3 ≡ kind_after Wedge w z j h d)
+      pub done : get_or w r.place 0 ≡ 2 → (0 ≡ kind_answer (Ok Wedge) w z j h d) × (set w r.place 3 ≡ kind_after (Ok Wedge) w z j h d)
       unfolding kind_checks kind_effect wedge_checks wedge_effect wedged first_of
       done m =
-          accepts Wedge p h d test e (simp (at.there, at.member, at.replica_is, active_word, eq-eqb _ _ m))
+          accepts (Ok Wedge) p h d test e (simp (at.there, at.member, at.replica_is, active_word, eq-eqb _ _ m))
           (store_mode w r.place _ (words_at at p.ready) 3 ∙ rw (at.place_is, at.replica_is))

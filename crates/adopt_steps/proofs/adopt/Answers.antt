@@ -1,4 +1,5 @@
 -- `adopt_steps::adopt` meets its contract.
+use Rattle.std.specs.Prelude.{Ok}
 use Rattle.types.specs.declared.kind.Kind.TheVariants.{Adopt}
 use Rattle.lookup.proofs.KindAnswers.{out_of_range_lem}
 use Rattle.adopt_steps.proofs.AdoptSteps.{known, named, nowhere, there, is_orderer, not_active, holds, orderer-pending, done}
@@ -9,7 +10,7 @@ are_numbers-requires c = known
 
 pub returns-then-not-are_numbers : goal.returns-then-not-are_numbers
 returns-then-not-are_numbers c =
-    let t = out_of_range_lem Adopt c.requires _ _ c.are_numbers.ensures c.if-not-are_numbers.true-raw in
+    let t = out_of_range_lem (Ok Adopt) c.requires _ _ c.are_numbers.ensures c.if-not-are_numbers.true-raw in
     record { value = t.0; state_after = t.1 }
 
 pub find-found-requires : goal.find-found-requires

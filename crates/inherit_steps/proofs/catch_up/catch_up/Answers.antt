@@ -1,4 +1,5 @@
 -- `inherit_steps::catch_up::catch_up` meets its contract.
+use Rattle.std.specs.Prelude.{Ok}
 use Rattle.types.specs.declared.kind.Kind.TheVariants.{CatchUp}
 use Rattle.lookup.proofs.KindAnswers.{out_of_range_lem}
 use Rattle.inherit_steps.proofs.Beginnings.{acting_host_lem, nowhere, not_pending}
@@ -10,7 +11,7 @@ are_numbers-requires c = catching_up.known
 
 pub returns-then-not-are_numbers : goal.returns-then-not-are_numbers
 returns-then-not-are_numbers c =
-    let t = out_of_range_lem CatchUp c.requires _ _ c.are_numbers.ensures c.if-not-are_numbers.true-raw in
+    let t = out_of_range_lem (Ok CatchUp) c.requires _ _ c.are_numbers.ensures c.if-not-are_numbers.true-raw in
     record { value = t.0; state_after = t.1 }
 
 pub find-found-requires : goal.find-found-requires

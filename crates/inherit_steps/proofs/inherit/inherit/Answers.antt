@@ -1,4 +1,5 @@
 -- `inherit_steps::inherit::inherit` meets its contract.
+use Rattle.std.specs.Prelude.{Ok}
 use native.Mathlib.Omega.{arith}
 use Rattle.types.specs.declared.kind.Kind.TheVariants.{Inherit}
 use Rattle.lookup.proofs.KindAnswers.{out_of_range_lem}
@@ -11,7 +12,7 @@ are_numbers-requires c = inheriting.known
 
 pub returns-then-not-are_numbers : goal.returns-then-not-are_numbers
 returns-then-not-are_numbers c =
-    let t = out_of_range_lem Inherit c.requires _ _ c.are_numbers.ensures c.if-not-are_numbers.true-raw in
+    let t = out_of_range_lem (Ok Inherit) c.requires _ _ c.are_numbers.ensures c.if-not-are_numbers.true-raw in
     record { value = t.0; state_after = t.1 }
 
 pub find-found-requires : goal.find-found-requires

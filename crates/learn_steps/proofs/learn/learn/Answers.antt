@@ -1,4 +1,5 @@
 -- `learn_steps::learn::learn` meets its contract.
+use Rattle.std.specs.Prelude.{Ok}
 use native.Mathlib.Omega.{arith}
 use Rattle.types.specs.declared.kind.Kind.TheVariants.{Learn}
 use Rattle.lookup.proofs.KindAnswers.{out_of_range_lem}
@@ -10,7 +11,7 @@ are_numbers-requires c = known
 
 pub returns-then-not-are_numbers : goal.returns-then-not-are_numbers
 returns-then-not-are_numbers c =
-    let t = out_of_range_lem Learn c.requires _ _ c.are_numbers.ensures c.if-not-are_numbers.true-raw in
+    let t = out_of_range_lem (Ok Learn) c.requires _ _ c.are_numbers.ensures c.if-not-are_numbers.true-raw in
     record { value = t.0; state_after = t.1 }
 
 pub find-found-requires : goal.find-found-requires

@@ -1,4 +1,5 @@
 -- `replica_steps::add::add` meets its contract.
+use Rattle.std.specs.Prelude.{Ok}
 use native.Mathlib.Omega.{arith}
 use lib.ListN.{length-set}
 use Rattle.types.specs.declared.kind.Kind.TheVariants.{Add}
@@ -11,7 +12,7 @@ are_numbers-requires c = known
 
 pub returns-then-not-are_numbers : goal.returns-then-not-are_numbers
 returns-then-not-are_numbers c =
-    let t = out_of_range_lem Add c.requires.kind _ _ c.are_numbers.ensures c.if-not-are_numbers.true-raw in
+    let t = out_of_range_lem (Ok Add) c.requires.kind _ _ c.are_numbers.ensures c.if-not-are_numbers.true-raw in
     record { value = t.0; state_after = t.1 }
 
 pub find-found-requires : goal.find-found-requires

@@ -1,4 +1,5 @@
 -- `wedge_steps::wedge::wedge` meets its contract.
+use Rattle.std.specs.Prelude.{Ok}
 use Rattle.types.specs.declared.kind.Kind.TheVariants.{Wedge}
 use Rattle.lookup.proofs.KindAnswers.{out_of_range_lem}
 use Rattle.wedge_steps.proofs.WedgeSteps.{known, named, nowhere, not_active, done}
@@ -9,7 +10,7 @@ are_numbers-requires c = known
 
 pub returns-then-not-are_numbers : goal.returns-then-not-are_numbers
 returns-then-not-are_numbers c =
-    let t = out_of_range_lem Wedge c.requires _ _ c.are_numbers.ensures c.if-not-are_numbers.true-raw in
+    let t = out_of_range_lem (Ok Wedge) c.requires _ _ c.are_numbers.ensures c.if-not-are_numbers.true-raw in
     record { value = t.0; state_after = t.1 }
 
 pub find-found-requires : goal.find-found-requires

@@ -1,0 +1,58 @@
+-- A rejection is the one of its number, and no rejection has number 0.
+use Rattle.std.proofs.Common.{◌≡◌, refl, false, eqb}
+use Rattle.types.specs.declared.rejection.Rejection.{Rejection}
+use Rattle.types.specs.declared.rejection.Rejection.TheVariants.{StateLength, Plan, KeptKind, UnknownKind, LogEnds, NumberForm, OutOfRange, OutputLength, NotWellFormed, NotInstalled, NotMember, WrongMode, NoSource, IsOrderer, EntryHeld, HistoryFull, NotSequencer, NotLonger, NotAlike, NoIssue, WrongIndex, IssuedBefore, RivalIssue, NotWedged}
+use Rattle.types.specs.Rejections.{rejection_number, numbered}
+
+pub numbered_back : (r : Rejection) → numbered (rejection_number r) ≡ r
+unfolding numbered
+numbered_back StateLength = refl
+numbered_back Plan = refl
+numbered_back KeptKind = refl
+numbered_back UnknownKind = refl
+numbered_back LogEnds = refl
+numbered_back NumberForm = refl
+numbered_back OutOfRange = refl
+numbered_back OutputLength = refl
+numbered_back NotWellFormed = refl
+numbered_back NotInstalled = refl
+numbered_back NotMember = refl
+numbered_back WrongMode = refl
+numbered_back NoSource = refl
+numbered_back IsOrderer = refl
+numbered_back EntryHeld = refl
+numbered_back HistoryFull = refl
+numbered_back NotSequencer = refl
+numbered_back NotLonger = refl
+numbered_back NotAlike = refl
+numbered_back NoIssue = refl
+numbered_back WrongIndex = refl
+numbered_back IssuedBefore = refl
+numbered_back RivalIssue = refl
+numbered_back NotWedged = refl
+
+pub number_not_0 : (r : Rejection) → eqb (rejection_number r) 0 ≡ false
+number_not_0 StateLength = refl
+number_not_0 Plan = refl
+number_not_0 KeptKind = refl
+number_not_0 UnknownKind = refl
+number_not_0 LogEnds = refl
+number_not_0 NumberForm = refl
+number_not_0 OutOfRange = refl
+number_not_0 OutputLength = refl
+number_not_0 NotWellFormed = refl
+number_not_0 NotInstalled = refl
+number_not_0 NotMember = refl
+number_not_0 WrongMode = refl
+number_not_0 NoSource = refl
+number_not_0 IsOrderer = refl
+number_not_0 EntryHeld = refl
+number_not_0 HistoryFull = refl
+number_not_0 NotSequencer = refl
+number_not_0 NotLonger = refl
+number_not_0 NotAlike = refl
+number_not_0 NoIssue = refl
+number_not_0 WrongIndex = refl
+number_not_0 IssuedBefore = refl
+number_not_0 RivalIssue = refl
+number_not_0 NotWedged = refl
