@@ -1,5 +1,7 @@
 -- A call with an output for a count: with too short an output, and from what the call inside answers and leaves.
 -- Assumes nothing.
+use Rattle.std.specs.Prelude.{Ok, Err}
+use Rattle.types.specs.Rejections.{Written}
 use Prim.Native.Nat.{ℕ, ◌≤◌, ◌<◌}
 use mathlib.Core.Path.{◌≡◌, refl, ap, ◌∙◌}
 use mathlib.Core.Bool.{Bool, true, false, cond}
@@ -8,9 +10,6 @@ use lib.Dec.{eqb}
 use lib.ListN.{length}
 use lib.Seq.{sets}
 use borrow.Author.Tests.{le-leb, lt-leb}
-use Rattle.types.specs.declared.Writing.{Writing}
-use Rattle.types.specs.declared.Writing.TheVariants.{Bytes, Rejected as NotWritten}
-use Rattle.stable_entries.specs.declared.Listing.{Listing}
 use Rattle.stable_entries.specs.Listing.{listing_of}
 use Rattle.word_outputs.specs.Counts.{counted_answer, counted_out, count_after}
 use Rattle.word_outputs.specs.WordOutputs.{writing_word, listing_word}
@@ -30,19 +29,19 @@ module _ (count out left : List ℕ) (rejection n : ℕ) where
 
 -- the word of an answer: a count n of what was written or copied, or a rejection
 module _ (count : List ℕ) (rejection : ℕ) where
-  pub writing_word_lem : (n : ℕ) {x : Writing} → x ≡ cond (eqb rejection 0) (Bytes n) (NotWritten rejection)
+  pub writing_word_lem : (n : ℕ) {x : Written} → x ≡ cond (eqb rejection 0) (Ok n) (Err rejection)
       → sets count 0 (writing_word x) ≡ cond (eqb rejection 0) (sets count 0 (n ∷ [])) count
   unfolding writing_word
-  writing_word_lem n {x} e = ap (λ (y : Writing). sets count 0 (writing_word y)) e ∙ go (eqb rejection 0)
+  writing_word_lem n {x} e = ap (λ (y : Written). sets count 0 (writing_word y)) e ∙ go (eqb rejection 0)
     where
-      go : (t : Bool) → sets count 0 (writing_word (cond t (Bytes n) (NotWritten rejection))) ≡ cond t (sets count 0 (n ∷ [])) count
+      go : (t : Bool) → sets count 0 (writing_word (cond t (Ok n) (Err rejection))) ≡ cond t (sets count 0 (n ∷ [])) count
       go true = refl
       go false = refl
 
-  pub listing_word_lem : (l : List ℕ) {x : Listing} → x ≡ listing_of rejection l
+  pub listing_word_lem : (l : List ℕ) {x : Written} → x ≡ listing_of rejection l
       → sets count 0 (listing_word x) ≡ cond (eqb rejection 0) (sets count 0 (length l ∷ [])) count
   unfolding listing_word listing_of
-  listing_word_lem l {x} e = ap (λ (y : Listing). sets count 0 (listing_word y)) e ∙ go (eqb rejection 0) refl
+  listing_word_lem l {x} e = ap (λ (y : Written). sets count 0 (listing_word y)) e ∙ go (eqb rejection 0) refl
     where
       go : (t : Bool) → eqb rejection 0 ≡ t → sets count 0 (listing_word (listing_of rejection l)) ≡ cond t (sets count 0 (length l ∷ [])) count
       go true q = rw q

@@ -1,5 +1,8 @@
 -- The answer and output of the step reader: with too short an output, and from what the readers return.
 -- Assumes nothing.
+use Rattle.types.specs.Rejections.{answer_number}
+use Rattle.std.specs.Prelude.{Err}
+use Rattle.model.specs.Log.{ReadStep, one_step}
 use Prim.Native.Nat.{ℕ, ◌≤◌, ◌<◌}
 use native.Mathlib.Omega.{arith}
 use mathlib.Core.Path.{◌≡◌, refl, sym, ◌∙◌}
@@ -7,11 +10,9 @@ use mathlib.Core.List.{List}
 use lib.ListN.{length, drop}
 use lib.Seq.{sets}
 use borrow.Author.Tests.{le-leb, lt-leb, ne_eqb}
-use Rattle.types.specs.declared.Reading.{Reading}
 use Rattle.types.specs.declared.step.Step.{Step}
-use Rattle.types.specs.declared.Reading.TheVariants.{Step as Read, Rejected}
 use Rattle.model.specs.Log.{read_step, read_at}
-use Rattle.model.specs.Results.{reading_number, reading_step, reading_next, read_rejection}
+use Rattle.model.specs.Results.{reading_step, reading_next, read_rejection}
 use Rattle.model.proofs.Results.{reads_at}
 use Rattle.transcript.proofs.StepSizes.{step_damage}
 use Rattle.word_outputs.specs.WordOutputs.{step_words}
@@ -24,7 +25,7 @@ module _ (log : List ℕ) (at : ℕ) (step : List ℕ) where
 
   module _ (h : 6 ≤ length step) where
     -- a step, or the end
-    pub read : {x : Reading} {words : List ℕ} → x ≡ read_at log at → reading_number x ≡ 0 → words ≡ sets step 0 (step_words (reading_step x) (reading_next x))
+    pub read : {x : ReadStep} {words : List ℕ} → x ≡ read_at log at → answer_number x ≡ 0 → words ≡ sets step 0 (step_words (reading_step x) (reading_next x))
         → (0 ≡ read_answer log at step) × (words ≡ step_after log at step)
     unfolding read_answer step_after
     read e z q =
@@ -33,14 +34,14 @@ module _ (log : List ℕ) (at : ℕ) (step : List ℕ) where
         (rw (le-leb _ _ h, n), rw (le-leb _ _ h, n, ← r.1.0, ← r.1.1.0) q)
 
     -- a step that its bytes tell
-    pub read_told : {s : Step} {n : ℕ} {words : List ℕ} → read_at log at ≡ Read s n → words ≡ sets step 0 (step_words s n)
+    pub read_told : {s : Step} {n : ℕ} {words : List ℕ} → read_at log at ≡ one_step s n → words ≡ sets step 0 (step_words s n)
         → (0 ≡ read_answer log at step) × (words ≡ step_after log at step)
-    unfolding reading_number reading_step reading_next
+    unfolding reading_step reading_next
     read_told e q = read (sym e) refl q
 
     -- a rejection is no 0
-    pub read_rejected : {r : ℕ} → read_step (drop at log) ≡ Rejected r → (r ≡ read_answer log at step) × (step ≡ step_after log at step)
-    unfolding read_answer step_after read_rejection reading_number
+    pub read_rejected : {r : ℕ} → read_step (drop at log) ≡ Err r → (r ≡ read_answer log at step) × (step ≡ step_after log at step)
+    unfolding read_answer step_after read_rejection
     read_rejected {r} e =
         let n = ne_eqb r 0 (λ z. omega (arith, z, (step_damage (drop at log) e).least)) in
         (rw (le-leb _ _ h, e), rw (le-leb _ _ h, e, n))

@@ -1,4 +1,5 @@
 -- Rows about the log: reader, writer and replay.
+use Rattle.types.specs.Rejections.{answer_number}
 use Prim.Native.Nat.{ℕ}
 use mathlib.Core.Path.{◌≡◌, refl}
 use mathlib.Core.List.{List, [], ◌∷◌}
@@ -8,7 +9,7 @@ use Rattle.model.specs.Layout.{is_state_length, shards_of}
 use Rattle.model.specs.Numbers.{groups_of, number_bytes, numbers_bytes}
 use Rattle.model.specs.Log.{read_log}
 use Rattle.model.specs.Writer.{is_writable, are_writable, step_bytes, write_rejection}
-use Rattle.model.specs.Results.{reading_number, reading_step, reading_next, read_rejection, step_read, bytes_read, next_read, count_beside}
+use Rattle.model.specs.Results.{reading_step, reading_next, read_rejection, step_read, bytes_read, next_read, count_beside}
 use Rattle.model.specs.Results.{stop_number, stop_code, replay_number, replay_code, replay_bytes}
 use Rattle.model.specs.Replay.{replay_rejection, replayed, rejected_in}
 use Rattle.model.specs.Transcript.{program_start}
@@ -46,7 +47,7 @@ replayed_ill log budget = rw rejected_ill
 -- ---- the rows
 
 pub reader_order : ReaderOrder
-unfolding log_reading read_rejection reading_number step_read reading_step bytes_read reading_next next_read
+unfolding log_reading read_rejection step_read reading_step bytes_read reading_next next_read
 reader_order =
     record {
       kind = refl;

@@ -1,4 +1,6 @@
 -- The ladder of a shard's stable history: what is answered and left, by the tests that are made in turn.
+use Rattle.std.specs.Prelude.{Err}
+use Rattle.types.specs.Rejections.{Written, answer_count, answer_number}
 use Prim.Native.Nat.{ℕ, ◌≤◌, ◌<◌}
 use native.Mathlib.Omega.{arith}
 use mathlib.Core.Path.{◌≡◌}
@@ -12,9 +14,6 @@ use Rattle.model.specs.WellFormed.{well_formed}
 use Rattle.model.proofs.Lengths.{several}
 use Rattle.lookup.proofs.Formed.{formed_of}
 use Rattle.model.specs.StableHistory.{stable_history}
-use Rattle.stable_entries.specs.declared.Listing.{Listing}
-use Rattle.stable_entries.specs.declared.Listing.TheVariants.{Rejected}
-use Rattle.stable_entries.specs.Listing.{listing_number, listing_count}
 use Rattle.stable_entries.specs.StableEntries.{copying_rejection, copying, after_copying}
 use Rattle.stable_entries.specs.Pick.{longest_place, OfShard}
 use Rattle.histories.specs.History.{listing_rejection, listed_count, listing, after_listing}
@@ -27,18 +26,18 @@ of_shard w z n h f = record { formed = formed_of w n f; shard = h }
 
 module _ (w : List ℕ) (z : ℕ) (out : List ℕ) where
   -- what is answered and left, in numbers and as a value
-  abbrev Answers : Listing → List ℕ → Type 0
+  abbrev Answers : Written → List ℕ → Type 0
   Answers r v =
-      (listing_number r ≡ listing_rejection w z out)
-      × ((listing_count r ≡ listed_count w z out) × ((r ≡ listing w z out) × (v ≡ after_listing w z out)))
+      (answer_number r ≡ listing_rejection w z out)
+      × ((answer_count r ≡ listed_count w z out) × ((r ≡ listing w z out) × (v ≡ after_listing w z out)))
 
-  pub answers : {r : Listing} {v : List ℕ} → r ≡ listing w z out → v ≡ after_listing w z out → Answers r v
+  pub answers : {r : Written} {v : List ℕ} → r ≡ listing w z out → v ≡ after_listing w z out → Answers r v
   unfolding listing after_listing listed_count
   answers e f = told (listing_rejection w z out) (stable_history w z) out e f
 
   -- a rejection leaves the output
   abbrev Rejects : ℕ → Type 0
-  Rejects k = Answers (Rejected k) out
+  Rejects k = Answers (Err k) out
 
   rejects_as : (k : ℕ) → (k ≡ 0 → ⊥) → listing_rejection w z out ≡ k → Rejects k
   unfolding listing after_listing

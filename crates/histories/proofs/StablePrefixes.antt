@@ -1,4 +1,6 @@
 -- The ladder of a replica's stable prefix: what is answered and left where the replica is not found, and where it is.
+use Rattle.std.specs.Prelude.{Err}
+use Rattle.types.specs.Rejections.{Written, answer_count, answer_number}
 use Prim.Native.Nat.{ℕ, ◌-◌}
 use mathlib.Core.Path.{◌≡◌, refl, sym, ap, ◌∙◌}
 use mathlib.Core.List.{List, [], ◌∷◌}
@@ -10,9 +12,7 @@ use Rattle.types.specs.ReplicaPlace.{replica_place}
 use Rattle.model.specs.OneList.{stable_of}
 use Rattle.model.proofs.Checks.{passed, first_before, first_after}
 use Rattle.lookup.specs.declared.Found.{Found}
-use Rattle.stable_entries.specs.declared.Listing.{Listing}
-use Rattle.stable_entries.specs.declared.Listing.TheVariants.{Rejected}
-use Rattle.stable_entries.specs.Listing.{has_room, listing_number, listing_count}
+use Rattle.stable_entries.specs.Listing.{has_room}
 use Rattle.stable_entries.specs.StableEntries.{entries_at, HasEntries, copying_rejection, copying, after_copying}
 use Rattle.histories.specs.NamedReplicas.{replica_checks, found_named}
 use Rattle.histories.specs.Prefix.{shown, prefix_rejection, prefix_count, prefix_listing, after_prefix}
@@ -21,12 +21,12 @@ use Rattle.stable_entries.proofs.Listings.{rejects, told}
 use Rattle.histories.proofs.NamedReplicas.{IsNamed, is_named}
 
 -- what is answered and left, in numbers and as a value
-abbrev Answers : List ℕ → ℕ → ℕ → ℕ → List ℕ → Listing → List ℕ → Type 0
+abbrev Answers : List ℕ → ℕ → ℕ → ℕ → List ℕ → Written → List ℕ → Type 0
 Answers w z i h out r v =
-    (listing_number r ≡ prefix_rejection w z i h out)
-    × ((listing_count r ≡ prefix_count w z i h out) × ((r ≡ prefix_listing w z i h out) × (v ≡ after_prefix w z i h out)))
+    (answer_number r ≡ prefix_rejection w z i h out)
+    × ((answer_count r ≡ prefix_count w z i h out) × ((r ≡ prefix_listing w z i h out) × (v ≡ after_prefix w z i h out)))
 
-pub answers : (w : List ℕ) (z i h : ℕ) (out : List ℕ) {r : Listing} {v : List ℕ} → r ≡ prefix_listing w z i h out → v ≡ after_prefix w z i h out
+pub answers : (w : List ℕ) (z i h : ℕ) (out : List ℕ) {r : Written} {v : List ℕ} → r ≡ prefix_listing w z i h out → v ≡ after_prefix w z i h out
     → Answers w z i h out r v
 unfolding prefix_listing after_prefix prefix_count
 answers w z i h out e f = told (prefix_rejection w z i h out) (shown w z i h) out e f
@@ -36,7 +36,7 @@ module _ (w : List ℕ) (z i h : ℕ) (out : List ℕ) {r : Found} (e : r ≡ fo
   unfolding found_named
   answer_is = ap (λ (s : Found). s.answer) e
 
-  pub rejects_named : (r.answer ≡ 0 → ⊥) → Answers w z i h out (Rejected r.answer) out
+  pub rejects_named : (r.answer ≡ 0 → ⊥) → Answers w z i h out (Err r.answer) out
   unfolding prefix_listing after_prefix prefix_rejection
   rejects_named n =
       let q = first_before (replica_checks w z i h) (has_room (shown w z i h) out ∷ []) (λ m. n (answer_is ∙ m)) ∙ sym answer_is in

@@ -1,11 +1,11 @@
 -- A shard's stable history, copied to an output: what the function answers and leaves.
+use Rattle.types.specs.Rejections.{Written}
 use Rattle.std.specs.Prelude.{ℕ, List, [], ◌∷◌, ltb, length}
 use Rattle.model.specs.Checks.{first_of, ◌or_else◌}
 use Rattle.model.specs.Layout.{shards_of, is_state_length}
 use Rattle.model.specs.WellFormed.{well_formed}
 use Rattle.model.specs.StableHistory.{stable_history}
 use Rattle.model.specs.Results.{count_beside}
-use Rattle.stable_entries.specs.declared.Listing.{Listing}
 use Rattle.stable_entries.specs.Listing.{has_room, listing_of, after_listing_of}
 
 -- in the order of a step's checks, and the output's last: 1, 7, 9, 8
@@ -23,7 +23,7 @@ unfoldable pub listed_count : List ℕ → ℕ → List ℕ → ℕ
 listed_count w z out = count_beside (listing_rejection w z out) (stable_history w z)
 
 -- both as one answer
-unfoldable pub listing : List ℕ → ℕ → List ℕ → Listing
+unfoldable pub listing : List ℕ → ℕ → List ℕ → Written
 listing w z out = listing_of (listing_rejection w z out) (stable_history w z)
 
 -- what is left of the output

@@ -1,9 +1,9 @@
 -- A replica's stable prefix ("confirmed part"), copied to an output: what a host shows, and what the function answers and leaves.
+use Rattle.types.specs.Rejections.{Written}
 use Rattle.std.specs.Prelude.{ℕ, ◌-◌, List, [], ◌∷◌, ◌++◌}
 use Rattle.model.specs.Checks.{first_of}
 use Rattle.model.specs.OneList.{stable_of}
 use Rattle.model.specs.Results.{count_beside}
-use Rattle.stable_entries.specs.declared.Listing.{Listing}
 use Rattle.stable_entries.specs.Listing.{has_room, listing_of, after_listing_of}
 use Rattle.histories.specs.NamedReplicas.{replica_checks}
 
@@ -20,7 +20,7 @@ unfoldable pub prefix_count : List ℕ → ℕ → ℕ → ℕ → List ℕ → 
 prefix_count w z i h out = count_beside (prefix_rejection w z i h out) (shown w z i h)
 
 -- both as one answer
-unfoldable pub prefix_listing : List ℕ → ℕ → ℕ → ℕ → List ℕ → Listing
+unfoldable pub prefix_listing : List ℕ → ℕ → ℕ → ℕ → List ℕ → Written
 prefix_listing w z i h out = listing_of (prefix_rejection w z i h out) (shown w z i h)
 
 -- what is left of the output

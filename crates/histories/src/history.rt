@@ -1,6 +1,6 @@
 // A shard's stable history, copied to an output.
+ghost use Rattle.types.specs.Rejections.{answer_count, answer_number};
 ghost use Rattle.std.specs.Prelude.{◌≡◌};
-ghost use Rattle.stable_entries.specs.Listing.{listing_number, listing_count};
 ghost use Rattle.histories.specs.History.{listing_rejection, listed_count, listing, after_listing};
 
 use stable_entries::Listing;
@@ -9,8 +9,8 @@ use stable_entries::pick::longest;
 
 // Copies a shard's stable history to the start of an output; a rejection (1, 7, 9 or 8) leaves the output untouched.
 pub fn stable_history(state: &[u64], shard: u64, out: &mut [u64]) -> Listing
-    ensures result_value { listing_number result ≡ listing_rejection state.now shard out.old }
-    ensures result_value_2 { listing_count result ≡ listed_count state.now shard out.old }
+    ensures result_value { answer_number result ≡ listing_rejection state.now shard out.old }
+    ensures result_value_2 { answer_count result ≡ listed_count state.now shard out.old }
     ensures value { result ≡ listing state.now shard out.old }
     ensures out_after { out.new ≡ after_listing state.now shard out.old }
 {

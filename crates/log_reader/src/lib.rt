@@ -2,10 +2,11 @@
 
 #![tactic(auto)]
 
+ghost use Rattle.types.specs.Rejections.{answer_number};
 ghost use Rattle.std.specs.Prelude.{◌≡◌, [], ◌∷◌, suc, drop};
 ghost use Rattle.model.specs.Numbers.{read_numbers};
 ghost use Rattle.model.specs.Log.{read_at, read_step};
-ghost use Rattle.model.specs.Results.{reading_number, reading_step, reading_next, read_rejection, step_read, bytes_read, next_read};
+ghost use Rattle.model.specs.Results.{reading_step, reading_next, read_rejection, step_read, bytes_read, next_read};
 ghost use Rattle.types.specs.Rules.{fourth_numbers};
 ghost use Rattle.log_reader.specs.ReadInParts.{with_prior, kind_at};
 
@@ -16,7 +17,7 @@ use types::{Number, Reading};
 
 // The step at a position of a log: the rejection, the step, and the position after it.
 pub fn read_step(log: &[u8], at: usize) -> Reading
-    ensures result_value { reading_number result ≡ read_rejection (drop at log.now) }
+    ensures result_value { answer_number result ≡ read_rejection (drop at log.now) }
     ensures result_value_2 { reading_step result ≡ step_read (drop at log.now) }
     ensures result_value_3 { reading_next result ≡ next_read log.now at }
     ensures value { result ≡ read_at log.now at }
@@ -37,7 +38,7 @@ pub fn read_step(log: &[u8], at: usize) -> Reading
 // The step at the start of a log, with the count of its bytes. A caller that adds the count to a position itself need not wait for the
 // position inside the reader.
 pub fn first_step(log: &[u8]) -> Reading
-    ensures result_value { reading_number result ≡ read_rejection log.now }
+    ensures result_value { answer_number result ≡ read_rejection log.now }
     ensures result_value_2 { reading_step result ≡ step_read log.now }
     ensures result_value_3 { reading_next result ≡ bytes_read log.now }
     ensures value { result ≡ read_step log.now }

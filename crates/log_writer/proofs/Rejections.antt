@@ -1,4 +1,5 @@
 -- What the writer rejects. Assumes nothing.
+use Rattle.std.specs.Prelude.{Ok, Err}
 use Prim.Native.Nat.{ℕ, ◌+◌, ◌≤◌, ◌<◌}
 use native.Mathlib.Omega.{arith}
 use mathlib.Core.Path.{◌≡◌, sym, ◌∙◌}
@@ -8,7 +9,6 @@ use lib.Dec.{leb}
 use lib.ListN.{length, take, drop}
 use lib.Seq.{sets, sets-eq}
 use borrow.Author.Tests.{le-leb, lt-leb, ltb-true, ne_eqb}
-use Rattle.types.specs.declared.Writing.TheVariants.{Bytes, Rejected}
 use Rattle.types.specs.declared.step.Step.{Step}
 use Rattle.model.specs.Checks.{first_of}
 use Rattle.types.specs.Kinds.{kind_of, is_kept, is_unknown, used_numbers, kind_rejection}
@@ -25,7 +25,7 @@ used_by s = used_numbers (kind_of s.kind)
 
 -- what the writer answers with a rejection, and that it leaves the output untouched
 pub record Refused (out : List ℕ) (at : ℕ) (s : Step) (r : ℕ) : Type 0 where
-  pub answer : Rejected r ≡ writing out at s
+  pub answer : Err r ≡ writing out at s
   pub untouched : out ≡ after_writing out at s
 
 -- the checks in order
@@ -81,7 +81,7 @@ module _ (out : List ℕ) (at : ℕ) (s : Step) where
             let fits = le-leb (at + length (step_bytes s)) (length out) (rw (bytes_used s k) at h) in
             rw (k.not_kept, k.known, w, fits)
 
-        pub written : Bytes (length (bytes_of s (used_by s))) ≡ writing out at s
+        pub written : Ok (length (bytes_of s (used_by s))) ≡ writing out at s
         unfolding writing
         written = rw (accepted, bytes_used s k)
 

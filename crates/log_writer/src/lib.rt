@@ -2,10 +2,11 @@
 
 #![tactic(auto)]
 
+ghost use Rattle.types.specs.Rejections.{answer_count, answer_number};
 ghost use Rattle.std.specs.Prelude.{◌≡◌, ◌+◌, ◌<◌, leb, length};
 ghost use Rattle.std.proofs.lemmas.List.Edits.{sets};
 ghost use Rattle.model.specs.Writer.{step_bytes, write_rejection, writing, after_writing};
-ghost use Rattle.model.specs.Results.{writing_number, writing_count, count_beside};
+ghost use Rattle.model.specs.Results.{count_beside};
 ghost use Rattle.log_writer.specs.WriteInParts.{writable, bytes_of, StepRoom};
 
 use numbers::write::{number_length, write_number};
@@ -15,8 +16,8 @@ use types::step::Step;
 
 // Writes a step at a position of an output: the count of bytes, or the rejection, which leaves the output untouched.
 pub fn write_step(out: &mut [u8], at: usize, s: Step) -> Writing
-    ensures result_value { writing_number result ≡ write_rejection out.old at s }
-    ensures result_value_2 { writing_count result ≡ count_beside (write_rejection out.old at s) (step_bytes s) }
+    ensures result_value { answer_number result ≡ write_rejection out.old at s }
+    ensures result_value_2 { answer_count result ≡ count_beside (write_rejection out.old at s) (step_bytes s) }
     ensures value { result ≡ writing out.old at s }
     ensures out_after { out.new ≡ after_writing out.old at s }
 {

@@ -1,4 +1,6 @@
 -- Whole logs read back to the steps that were written, and their bytes are the only ones that read to them (`log_round_trip`). Assumes nothing.
+use Rattle.std.specs.Prelude.{Ok, Err, Some, None}
+use Rattle.model.specs.Log.{ReadStep}
 use Prim.Native.Nat.{ℕ, zero, suc, ◌+◌, ◌≤◌, zero-le}
 use native.Mathlib.Omega.{arith}
 use mathlib.Core.Path.{◌≡◌, refl, sym, ap, ◌∙◌}
@@ -6,8 +8,6 @@ use mathlib.Core.Bool.{true, cond}
 use mathlib.Core.List.{List, [], ◌∷◌}
 use lib.ListN.{length, take, drop, length-append, length-drop}
 use lib.Seq.{drop-append_seam, drop-drop, take-add}
-use Rattle.types.specs.declared.Reading.{Reading}
-use Rattle.types.specs.declared.Reading.TheVariants.{Step as Read, End, Rejected}
 use Rattle.types.specs.declared.Stop.{Stop}
 use Rattle.types.specs.declared.Stop.TheVariants.{Ended, Spent}
 use Rattle.types.specs.declared.step.Step.{Step}
@@ -83,12 +83,12 @@ module _ {bs : List ℕ} {s : Step} {n : ℕ} (g : Whole bs s n) where
       }
 
 -- every reading of a first step, with what was read of the bytes after it
-reading_given : (budget : ℕ) (bs : List ℕ) (more : ℕ → Log) → ((n : ℕ) → Given budget (drop n bs) (more n)) → (r : Reading) → read_step bs ≡ r
+reading_given : (budget : ℕ) (bs : List ℕ) (more : ℕ → Log) → ((n : ℕ) → Given budget (drop n bs) (more n)) → (r : ReadStep) → read_step bs ≡ r
     → Given (suc budget) bs (log_after r more)
 unfolding log_after stopped
-reading_given budget bs more rest (Read s n) q = step_before (step_given bs q) (rest n)
-reading_given budget bs more rest End q = at_once (rw (none_left bs q) (ended refl zero-le))
-reading_given budget bs more rest (Rejected r) q = at_once (damaged q (omega arith))
+reading_given budget bs more rest (Ok (Some read)) q = step_before (step_given bs q) (rest read.next)
+reading_given budget bs more rest (Ok None) q = at_once (rw (none_left bs q) (ended refl zero-le))
+reading_given budget bs more rest (Err r) q = at_once (damaged q (omega arith))
 
 log_given : (budget : ℕ) (bs : List ℕ) → Given budget bs (read_log budget bs)
 unfolding read_log

@@ -1,4 +1,7 @@
 -- One number of a log reads back to what was written, and its bytes are the only ones that read to it. Assumes nothing.
+use Rattle.std.specs.Prelude.{Ok, Err}
+use Rattle.types.specs.declared.rejection.Rejection.TheVariants.{NumberForm}
+use Rattle.model.specs.Numbers.{ReadNumber, valued}
 use Prim.Native.Nat.{ℕ, zero, suc, ◌+◌, ◌*◌, ◌/◌, ◌%◌, ◌^◌, ◌≤◌, ◌<◌}
 use native.Mathlib.Nat.{mul-suc, mul_comm}
 use native.Mathlib.Decide.{dec_lt}
@@ -10,8 +13,6 @@ use lib.Dec.{ltb, eqb}
 use lib.ListN.{length, take}
 use lib.Pow.{pow-add, pow_pos}
 use borrow.Author.Tests.{ltb-true, ltb-false, lt-ltb, le-ltb, eqb-false, ne_eqb}
-use Rattle.types.specs.declared.Number.{Number}
-use Rattle.types.specs.declared.Number.TheVariants.{Value, Rejected}
 use Rattle.model.specs.Numbers.{most_bytes, with_lower, read_groups, read_number, groups_of, number_bytes}
 use Rattle.model.specs.Tests.{all_of}
 use Rattle.model.proofs.AllOf.{all_head, all_tail}
@@ -33,13 +34,13 @@ unfolding groups_of
 groups_more k n h = rw (le-ltb n 128 h)
 
 -- after another byte a byte 0 is rejected
-pub read_zero : (k : ℕ) (bs : List ℕ) → read_groups (suc k) false (0 ∷ bs) ≡ Rejected 6
+pub read_zero : (k : ℕ) (bs : List ℕ) → read_groups (suc k) false (0 ∷ bs) ≡ Err NumberForm
 unfolding read_groups
 read_zero k bs = refl
 
 -- a byte below 128 is the number's last; after another byte it is not 0
 pub read_last :
-    (k : ℕ) (is_first : Bool) (b : ℕ) (bs : List ℕ) → b < 128 → (is_first ≡ false → 1 ≤ b) → read_groups (suc k) is_first (b ∷ bs) ≡ Value b 1
+    (k : ℕ) (is_first : Bool) (b : ℕ) (bs : List ℕ) → b < 128 → (is_first ≡ false → 1 ≤ b) → read_groups (suc k) is_first (b ∷ bs) ≡ valued b 1
 unfolding read_groups
 read_last k true b bs h p = rw (lt-ltb b 128 h, and-false)
 read_last k false b bs h p = let q : 1 ≤ b = p refl in rw (lt-ltb b 128 h, ne_eqb b 0 (λ e. omega arith))
@@ -55,14 +56,14 @@ read_more k is_first b bs h = rw (le-ltb b 128 h)
 -- the last byte reads back
 last_reads :
     (k n : ℕ) (is_first : Bool) (rest : List ℕ) → n < 128 → (is_first ≡ false → 1 ≤ n)
-    → read_groups (suc k) is_first (groups_of (suc k) n ++ rest) ≡ Value n (length (groups_of (suc k) n))
+    → read_groups (suc k) is_first (groups_of (suc k) n ++ rest) ≡ valued n (length (groups_of (suc k) n))
 last_reads k n is_first rest h p = rw (groups_last k n h) (read_last k is_first n rest h p)
 
 -- a byte before what reads back
 more_reads :
     (k n : ℕ) (is_first : Bool) (rest : List ℕ) → 128 ≤ n
-    → read_groups k false (groups_of k (n / 128) ++ rest) ≡ Value (n / 128) (length (groups_of k (n / 128)))
-    → read_groups (suc k) is_first (groups_of (suc k) n ++ rest) ≡ Value n (length (groups_of (suc k) n))
+    → read_groups k false (groups_of k (n / 128) ++ rest) ≡ valued (n / 128) (length (groups_of k (n / 128)))
+    → read_groups (suc k) is_first (groups_of (suc k) n ++ rest) ≡ valued n (length (groups_of (suc k) n))
 unfolding with_lower
 more_reads k n is_first rest h ih =
     let value : (128 + n % 128) % 128 + 128 * (n / 128) ≡ n = omega arith in
@@ -71,7 +72,7 @@ more_reads k n is_first rest h ih =
 -- a value that k + 1 groups hold, written in at most as many; after another byte it is not 0
 pub groups_read :
     (k n : ℕ) (is_first : Bool) (rest : List ℕ) → n < 2 ^ (7 * suc k) → (is_first ≡ false → 1 ≤ n)
-    → read_groups (suc k) is_first (groups_of (suc k) n ++ rest) ≡ Value n (length (groups_of (suc k) n))
+    → read_groups (suc k) is_first (groups_of (suc k) n ++ rest) ≡ valued n (length (groups_of (suc k) n))
 groups_read zero n is_first rest h p = last_reads zero n is_first rest h p
 groups_read (suc k) n is_first rest h p =
     elim (dec_lt n 128) [
@@ -98,9 +99,9 @@ pub record Groups (k : ℕ) (is_first : Bool) (bs : List ℕ) (v n : ℕ) : Type
   pub bytes : all_of is_byte bs ≡ true → take n bs ≡ groups_of k v
 
 -- the same of any result: a rejection tells nothing
-abbrev Given : ℕ → Bool → List ℕ → Number → Type 0
-Given k is_first bs (Value v n) = Groups k is_first bs v n
-Given k is_first bs (Rejected r) = Unit {0}
+abbrev Given : ℕ → Bool → List ℕ → ReadNumber → Type 0
+Given k is_first bs (Ok read) = Groups k is_first bs read.value read.bytes
+Given k is_first bs (Err r) = Unit {0}
 
 -- a byte that ends a number after another byte is not 0
 last_positive : (is_first : Bool) (b : ℕ) → (eqb b 0 && not is_first) ≡ false → is_first ≡ false → 1 ≤ b
@@ -110,7 +111,7 @@ last_positive false b e f = omega (arith, eqb-false b 0 (rw and-true at e))
 -- the lone byte of a number
 last_given :
     (k : ℕ) (is_first : Bool) (b : ℕ) (bs : List ℕ) → b < 128 → (t : Bool) → (eqb b 0 && not is_first) ≡ t
-    → Given (suc k) is_first (b ∷ bs) (cond t (Rejected 6) (Value b 1))
+    → Given (suc k) is_first (b ∷ bs) (cond t (Err NumberForm) (valued b 1))
 last_given k is_first b bs h true e = tt
 last_given k is_first b bs h false e =
     record {
@@ -132,20 +133,20 @@ more_bytes k b v bs h l p e =
 
 -- a byte before a number that was read
 more_given :
-    (k : ℕ) (is_first : Bool) (b : ℕ) (bs : List ℕ) → 128 ≤ b → (r : Number) → Given k false bs r
+    (k : ℕ) (is_first : Bool) (b : ℕ) (bs : List ℕ) → 128 ≤ b → (r : ReadNumber) → Given k false bs r
     → Given (suc k) is_first (b ∷ bs) (with_lower (b % 128) r)
 unfolding with_lower
-more_given k is_first b bs h (Value v n) g =
-    let one : 1 ≤ v = g.positive refl in
+more_given k is_first b bs h (Ok read) g =
+    let one : 1 ≤ read.value = g.positive refl in
     record {
       least = omega arith;
       most = omega arith;
       within = omega arith;
       below = omega (arith, more_values k);
       positive = λ e. omega arith;
-      bytes = λ f. more_bytes k b v (take n bs) h (ltb-true b 256 (all_head is_byte b bs f)) one (g.bytes (all_tail is_byte b bs f));
+      bytes = λ f. more_bytes k b read.value (take read.bytes bs) h (ltb-true b 256 (all_head is_byte b bs f)) one (g.bytes (all_tail is_byte b bs f));
     }
-more_given k is_first b bs h (Rejected r) g = tt
+more_given k is_first b bs h (Err r) g = tt
 
 -- every result, by the number of bytes allowed
 given : (k : ℕ) (is_first : Bool) (bs : List ℕ) → Given k is_first bs (read_groups k is_first bs)
@@ -157,24 +158,24 @@ given (suc k) is_first (b ∷ bs) = go (ltb b 128) refl (given k false bs)
     go :
         (t : Bool) → ltb b 128 ≡ t → Given k false bs (read_groups k false bs)
         → Given (suc k) is_first (b ∷ bs)
-        (cond t (cond (eqb b 0 && not is_first) (Rejected 6) (Value b 1)) (with_lower (b % 128) (read_groups k false bs)))
+        (cond t (cond (eqb b 0 && not is_first) (Err NumberForm) (valued b 1)) (with_lower (b % 128) (read_groups k false bs)))
     go true f ih = last_given k is_first b bs (ltb-true b 128 f) (eqb b 0 && not is_first) refl
     go false f ih = more_given k is_first b bs (ltb-false b 128 f) (read_groups k false bs) ih
 
-pub groups_given : (k : ℕ) (is_first : Bool) (bs : List ℕ) {v n : ℕ} → read_groups k is_first bs ≡ Value v n → Groups k is_first bs v n
+pub groups_given : (k : ℕ) (is_first : Bool) (bs : List ℕ) {v n : ℕ} → read_groups k is_first bs ≡ valued v n → Groups k is_first bs v n
 groups_given k is_first bs e = rw e at (given k is_first bs)
 
 -- ---- a number of a log, of at most five bytes
 
-pub number_read : (n : ℕ) (rest : List ℕ) → n < 2 ^ (7 * most_bytes) → read_number (number_bytes n ++ rest) ≡ Value n (length (number_bytes n))
+pub number_read : (n : ℕ) (rest : List ℕ) → n < 2 ^ (7 * most_bytes) → read_number (number_bytes n ++ rest) ≡ valued n (length (number_bytes n))
 unfolding read_number number_bytes
 number_read n rest h = groups_read 4 n true rest h (λ e. absurd (true≢false e))
 
-pub number_given : (bs : List ℕ) {v n : ℕ} → read_number bs ≡ Value v n → Groups most_bytes true bs v n
+pub number_given : (bs : List ℕ) {v n : ℕ} → read_number bs ≡ valued v n → Groups most_bytes true bs v n
 unfolding read_number
 number_given bs e = groups_given most_bytes true bs e
 
-module _ (bs : List ℕ) {v n : ℕ} (e : read_number bs ≡ Value v n) where
+module _ (bs : List ℕ) {v n : ℕ} (e : read_number bs ≡ valued v n) where
   pub number_bytes_least : 1 ≤ n
   number_bytes_least = (number_given bs e).least
 

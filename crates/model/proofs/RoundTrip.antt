@@ -1,4 +1,8 @@
 -- Steps read back to what was written, and their bytes are the only ones that read to them (`round_trip`). Assumes nothing.
+use Rattle.std.specs.Prelude.{Ok, Err, Some, None}
+use Rattle.types.specs.declared.rejection.Rejection.TheVariants.{KeptKind, UnknownKind}
+use Rattle.model.specs.Numbers.{ReadNumber, valued}
+use Rattle.model.specs.Log.{ReadStep, one_step}
 use Prim.Native.Nat.{ℕ, ◌+◌, ◌≤◌, ◌<◌}
 use native.Mathlib.Omega.{arith}
 use mathlib.Core.Logic.{◌⊎◌, inl, inr, ⊎_elim}
@@ -10,10 +14,6 @@ use lib.ListN.{length, take, drop, get_or, length-append, length-drop, get_or-eq
 use lib.Seq.{drop-append_seam, take-add}
 use borrow.Author.Tests.{eqb-true}
 use Rattle.types.proofs.KindNumbers.{used_cases, kind_below}
-use Rattle.types.specs.declared.Number.{Number}
-use Rattle.types.specs.declared.Number.TheVariants.{Value, Rejected as NotNumber}
-use Rattle.types.specs.declared.Reading.{Reading}
-use Rattle.types.specs.declared.Reading.TheVariants.{Step as Read, End, Rejected}
 use Rattle.types.specs.declared.step.Step.{Step}
 use Rattle.types.specs.Kinds.{kind_of, is_kept, is_unknown, used_numbers}
 use Rattle.model.specs.Log.{step_of, after_numbers, after_kind, read_step}
@@ -60,7 +60,7 @@ used_length s u (inl e) = rw e
 used_length s u (inr e) = rw e
 
 -- a reading begins with the kind
-kind_first : (bs : List ℕ) {k n : ℕ} → read_number bs ≡ Value k n → read_step bs ≡ after_kind bs (Value k n)
+kind_first : (bs : List ℕ) {k n : ℕ} → read_number bs ≡ valued k n → read_step bs ≡ after_kind bs (valued k n)
 unfolding read_step
 kind_first [] e = absurd (omega (arith, number_bytes_least [] e, number_within [] e))
 kind_first (b ∷ bs) e = ap (after_kind (b ∷ bs)) e
@@ -68,11 +68,11 @@ kind_first (b ∷ bs) e = ap (after_kind (b ∷ bs)) e
 -- the numbers follow a kind that is neither kept nor unknown
 numbers_next :
     (bs : List ℕ) (k n : ℕ) → is_kept (kind_of k) ≡ false → is_unknown (kind_of k) ≡ false
-    → after_kind bs (Value k n) ≡ after_numbers k n (read_numbers (used_numbers (kind_of k)) (drop n bs))
+    → after_kind bs (valued k n) ≡ after_numbers k n (read_numbers (used_numbers (kind_of k)) (drop n bs))
 unfolding after_kind
 numbers_next bs k n e f = rw (e, f)
 
-pub step_read_lem : (s : Step) (rest : List ℕ) → Writable s → read_step (step_bytes s ++ rest) ≡ Read s (length (step_bytes s))
+pub step_read_lem : (s : Step) (rest : List ℕ) → Writable s → read_step (step_bytes s ++ rest) ≡ one_step s (length (step_bytes s))
 unfolding step_bytes after_numbers
 step_read_lem s rest w =
     let k : ℕ = s.kind in
@@ -129,12 +129,12 @@ pub record Whole (bs : List ℕ) (s : Step) (n : ℕ) : Type 0 where
   pub bytes : all_of is_byte bs ≡ true → take n bs ≡ step_bytes s
 
 -- the same of any result: the end tells that there are no bytes, a rejection tells nothing
-abbrev GivenStep : List ℕ → Reading → Type 0
-GivenStep bs (Read s n) = Whole bs s n
-GivenStep bs End = bs ≡ []
-GivenStep bs (Rejected r) = Unit {0}
+abbrev GivenStep : List ℕ → ReadStep → Type 0
+GivenStep bs (Ok (Some read)) = Whole bs read.step read.next
+GivenStep bs (Ok None) = bs ≡ []
+GivenStep bs (Err r) = Unit {0}
 
-module _ (bs : List ℕ) (k n : ℕ) (first : read_number bs ≡ Value k n) (e : is_kept (kind_of k) ≡ false) (f : is_unknown (kind_of k) ≡ false) where
+module _ (bs : List ℕ) (k n : ℕ) (first : read_number bs ≡ valued k n) (e : is_kept (kind_of k) ≡ false) (f : is_unknown (kind_of k) ≡ false) where
   -- kind and numbers were read from the bytes that the writer gives
   read_bytes :
       (vs : List ℕ) (m : ℕ) → Several (used_numbers (kind_of k)) (drop n bs) vs m → all_of is_byte bs ≡ true
@@ -162,33 +162,33 @@ module _ (bs : List ℕ) (k n : ℕ) (first : read_number bs ≡ Value k n) (e :
   after_numbers_lem (rejected r) g = tt
 
 -- every result of a kind's number
-after_kind_lem : (bs : List ℕ) (r : Number) → read_number bs ≡ r → GivenStep bs (after_kind bs r)
+after_kind_lem : (bs : List ℕ) (r : ReadNumber) → read_number bs ≡ r → GivenStep bs (after_kind bs r)
 unfolding after_kind
-after_kind_lem bs (Value k n) first = go (is_kept (kind_of k)) refl (is_unknown (kind_of k)) refl
+after_kind_lem bs (Ok read) first = go (is_kept (kind_of read.value)) refl (is_unknown (kind_of read.value)) refl
   where
-    others : Reading
-    others = after_numbers k n (read_numbers (used_numbers (kind_of k)) (drop n bs))
+    others : ReadStep
+    others = after_numbers read.value read.bytes (read_numbers (used_numbers (kind_of read.value)) (drop read.bytes bs))
 
     go :
-        (t : Bool) → is_kept (kind_of k) ≡ t → (u : Bool) → is_unknown (kind_of k) ≡ u
-        → GivenStep bs (cond t (Rejected 3) (cond u (Rejected 4) others))
+        (t : Bool) → is_kept (kind_of read.value) ≡ t → (u : Bool) → is_unknown (kind_of read.value) ≡ u
+        → GivenStep bs (cond t (Err KeptKind) (cond u (Err UnknownKind) others))
     go true e u f = tt
     go false e true f = tt
-    go false e false f = after_numbers_lem bs k n first e f _ (numbers_result (used_numbers (kind_of k)) (drop n bs))
-after_kind_lem bs (NotNumber r) first = tt
+    go false e false f = after_numbers_lem bs read.value read.bytes first e f _ (numbers_result (used_numbers (kind_of read.value)) (drop read.bytes bs))
+after_kind_lem bs (Err r) first = tt
 
 step_result : (bs : List ℕ) → GivenStep bs (read_step bs)
 unfolding read_step
 step_result [] = refl
 step_result (b ∷ bs) = after_kind_lem (b ∷ bs) (read_number (b ∷ bs)) refl
 
-pub step_given : (bs : List ℕ) {s : Step} {n : ℕ} → read_step bs ≡ Read s n → Whole bs s n
+pub step_given : (bs : List ℕ) {s : Step} {n : ℕ} → read_step bs ≡ one_step s n → Whole bs s n
 step_given bs e = rw e at (step_result bs)
 
-pub none_left : (bs : List ℕ) → read_step bs ≡ End → bs ≡ []
+pub none_left : (bs : List ℕ) → read_step bs ≡ (Ok None) → bs ≡ []
 none_left bs e = rw e at (step_result bs)
 
-module _ (bs : List ℕ) {s : Step} {n : ℕ} (e : read_step bs ≡ Read s n) where
+module _ (bs : List ℕ) {s : Step} {n : ℕ} (e : read_step bs ≡ one_step s n) where
   pub step_least : 1 ≤ n
   step_least = (step_given bs e).least
 

@@ -1,4 +1,6 @@
 -- Several numbers of a log, end to end, read back to what was written, and their bytes are the only ones that read to them. Assumes nothing.
+use Rattle.std.specs.Prelude.{Ok, Err}
+use Rattle.model.specs.Numbers.{ReadNumber, valued}
 use Prim.Native.Nat.{ℕ, zero, suc, ◌≤◌}
 use native.Mathlib.Omega.{arith}
 use mathlib.Core.Path.{◌≡◌, refl, ap}
@@ -7,8 +9,6 @@ use mathlib.Core.List.{List, [], ◌∷◌, ◌++◌, append_assoc}
 use lib.ListN.{length, take, drop, length-append, length-drop}
 use lib.Seq.{drop-append_seam, take-add}
 use borrow.Author.Tests.{ltb-true, lt-ltb}
-use Rattle.types.specs.declared.Number.{Number}
-use Rattle.types.specs.declared.Number.TheVariants.{Value, Rejected as NotNumber}
 use Rattle.model.specs.Numbers.{Numbers, values, rejected, read_number, read_numbers, with_first, after_first, number_bytes, numbers_bytes}
 use Rattle.model.specs.Tests.{all_of}
 use Rattle.model.specs.Writer.{is_writable}
@@ -44,7 +44,7 @@ GivenNumbers count bs (rejected r) = Unit {0}
 
 -- a number before several that were read
 first_given :
-    (count : ℕ) (bs : List ℕ) (v n : ℕ) → read_number bs ≡ Value v n → (r : Numbers) → GivenNumbers count (drop n bs) r
+    (count : ℕ) (bs : List ℕ) (v n : ℕ) → read_number bs ≡ valued v n → (r : Numbers) → GivenNumbers count (drop n bs) r
     → GivenNumbers (suc count) bs (with_first v n r)
 unfolding with_first is_writable numbers_bytes
 first_given count bs v n e (values vs m) g =
@@ -64,10 +64,10 @@ numbers_result zero bs = record { counted = refl; within = omega arith; small = 
 numbers_result (suc count) bs = go (read_number bs) refl (λ n. numbers_result count (drop n bs))
   where
     go :
-        (r : Number) → read_number bs ≡ r → ((n : ℕ) → GivenNumbers count (drop n bs) (read_numbers count (drop n bs)))
+        (r : ReadNumber) → read_number bs ≡ r → ((n : ℕ) → GivenNumbers count (drop n bs) (read_numbers count (drop n bs)))
         → GivenNumbers (suc count) bs (after_first r (λ n. read_numbers count (drop n bs)))
-    go (Value v n) e more = first_given count bs v n e (read_numbers count (drop n bs)) (more n)
-    go (NotNumber r) e more = tt
+    go (Ok read) e more = first_given count bs read.value read.bytes e (read_numbers count (drop read.bytes bs)) (more read.bytes)
+    go (Err r) e more = tt
 
 pub numbers_given : (count : ℕ) (bs : List ℕ) {vs : List ℕ} {m : ℕ} → read_numbers count bs ≡ values vs m → Several count bs vs m
 numbers_given count bs e = rw e at (numbers_result count bs)

@@ -1,7 +1,7 @@
 -- A whole log's round trip as one claim (document 01: "A log is steps end to end"; the second demand: "Log bytes read to the steps they encode, and steps
 -- write to those bytes."). It is proved in `proofs/LogRoundTrip.antt` (`log_round_trip`).
-use Rattle.std.specs.Prelude.{ℕ, ◌≤◌, ◌<◌, ◌≡◌, true, List, [], ◌∷◌, ◌++◌, ltb, length, take, drop}
-use Rattle.types.specs.declared.Reading.TheVariants.{Rejected}
+use Rattle.std.specs.Prelude.{ℕ, ◌≤◌, ◌<◌, ◌≡◌, true, List, [], ◌∷◌, ◌++◌, ltb, length, take, drop, Err}
+use Rattle.types.specs.declared.rejection.Rejection.{Rejection}
 use Rattle.types.specs.declared.Stop.{Stop}
 use Rattle.types.specs.declared.Stop.TheVariants.{Ended, Spent, Damaged}
 use Rattle.types.specs.declared.step.Step.{Step}
@@ -37,7 +37,7 @@ pub data Stops (budget : ℕ) (bs : List ℕ) (l : Log) : Stop → Type 0 where
   -- bytes are left, and no budget
   spent : l.bytes < length bs → length l.steps ≡ budget → Stops budget bs l Spent
   -- what comes after the whole steps is rejected with that number
-  damaged : {r : ℕ} → read_step (drop l.bytes bs) ≡ Rejected r → length l.steps < budget → Stops budget bs l (Damaged r)
+  damaged : {r : Rejection} → read_step (drop l.bytes bs) ≡ Err r → length l.steps < budget → Stops budget bs l (Damaged r)
 
 pub record LogRoundTrip : Type 0 where
   -- the bytes of any steps that the writer accepts read to just these steps and the end, with any budget that is enough for them

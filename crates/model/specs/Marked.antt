@@ -1,7 +1,8 @@
 -- The marked cases of document 01 ("Edge cases (★ proved)") as one table and one claim. It is proved in `proofs/Marked.antt` (`marked_cases`).
+use Rattle.std.specs.Prelude.{Err}
+use Rattle.types.specs.declared.rejection.Rejection.TheVariants.{LogEnds, NumberForm}
+use Rattle.model.specs.Log.{ReadStep, one_step}
 use Rattle.std.specs.Prelude.{ℕ, zero, suc, ◌+◌, ◌^◌, ◌≡◌, List, [], ◌∷◌, ◌++◌, replicate}
-use Rattle.types.specs.declared.Reading.{Reading}
-use Rattle.types.specs.declared.Reading.TheVariants.{Step as Read, Rejected}
 use Rattle.types.specs.declared.step.Step.{Step}
 use Rattle.model.specs.Entries.{issue}
 use Rattle.model.specs.Steps.{rejection, after}
@@ -37,7 +38,7 @@ pub data Case : Type 0 where
   -- "Under that plan, after setup": these steps, tried in turn, give these answers
   answers : List Step → List ℕ → Case
   -- the step at the start of these bytes is read so
-  reads : List ℕ → Reading → Case
+  reads : List ℕ → ReadStep → Case
   -- this entry is this number
   word : ℕ → ℕ → Case
 
@@ -91,13 +92,13 @@ marked =
     ∷ answers (add 0 1 next_issue ∷ adopt 0 1 1 ∷ learn 0 1 0 1 ∷ wedge 1 1 3 ∷ install 1 1 0 0 ∷ inherit 1 2 3 2 ∷ [])
     (0 ∷ 0 ∷ 0 ∷ 0 ∷ 0 ∷ 13 ∷ [])
     -- "Bytes `04 01 02 05` are wedge 1, 2, 5"
-    ∷ reads (4 ∷ 1 ∷ 2 ∷ 5 ∷ []) (Read (wedge 1 2 5) 4)
+    ∷ reads (4 ∷ 1 ∷ 2 ∷ 5 ∷ []) (one_step (wedge 1 2 5) 4)
     -- "`01 00 01 AC 02` adds take 300"
-    ∷ reads (1 ∷ 0 ∷ 1 ∷ 172 ∷ 2 ∷ []) (Read (add 0 1 300) 5)
+    ∷ reads (1 ∷ 0 ∷ 1 ∷ 172 ∷ 2 ∷ []) (one_step (add 0 1 300) 5)
     ∷ answers (add 0 1 300 ∷ []) (0 ∷ [])
     -- "`80 00` is 6, `80` is 5"
-    ∷ reads (128 ∷ 0 ∷ []) (Rejected 6)
-    ∷ reads (128 ∷ []) (Rejected 5)
+    ∷ reads (128 ∷ 0 ∷ []) (Err NumberForm)
+    ∷ reads (128 ∷ []) (Err LogEnds)
     ∷ []
 
 unfoldable pub MarkedCases : Type 0

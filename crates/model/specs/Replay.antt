@@ -1,8 +1,9 @@
 -- The log run, here replay (document 01, "Log and run": "The run takes state, log and a budget").
-use Rattle.std.specs.Prelude.{ℕ, ◌+◌, cond, List, [], ◌∷◌, eqb, length}
+use Rattle.std.specs.Prelude.{ℕ, ◌+◌, cond, List, [], ◌∷◌, eqb, length, Result}
 use Rattle.types.specs.declared.step.Step.{Step}
 use Rattle.types.specs.declared.Report.{Report}
-use Rattle.types.specs.declared.Stop.TheVariants.{Rejected}
+use Rattle.types.specs.declared.rejection.Rejection.{Rejection}
+use Rattle.types.specs.Rejections.{answered}
 use Rattle.model.specs.Checks.{first_of, ◌or_else◌}
 use Rattle.model.specs.Layout.{is_state_length}
 use Rattle.model.specs.WellFormed.{well_formed}
@@ -28,16 +29,15 @@ unfoldable pub replayed : List ℕ → List ℕ → ℕ → List Step
 replayed w log budget = cond (eqb (replay_rejection w) 0) (read_log budget log).steps []
 
 -- "It returns how it stopped, steps tried, steps refused and bytes of whole steps read."
-unfoldable pub report : List ℕ → List ℕ → ℕ → Report
+unfoldable pub report : List ℕ → List ℕ → ℕ → Result Report Rejection
 report w log budget =
-    cond (eqb (replay_rejection w) 0)
+    answered (replay_rejection w)
     (record {
       stop = (read_log budget log).stop;
       tried = length (read_log budget log).steps;
       rejected = rejected_in w (read_log budget log).steps;
       bytes = (read_log budget log).bytes;
     })
-    (record { stop = Rejected (replay_rejection w); tried = 0; rejected = 0; bytes = 0 })
 
 -- "Earlier steps' effects remain."
 unfoldable pub after_replay : List ℕ → List ℕ → ℕ → List ℕ

@@ -1,7 +1,7 @@
 -- The log's round trip as one claim (the second demand): "Log bytes read to the steps they encode, and steps write to those bytes." It is proved in
 -- `proofs/RoundTrip.antt` (`round_trip`).
+use Rattle.model.specs.Log.{one_step}
 use Rattle.std.specs.Prelude.{ℕ, ◌≤◌, ◌≡◌, true, false, List, ◌++◌, ltb, length, take}
-use Rattle.types.specs.declared.Reading.TheVariants.{Step as Read}
 use Rattle.types.specs.declared.step.Step.{Step}
 use Rattle.types.specs.Kinds.{kind_of, is_kept, is_unknown}
 use Rattle.model.specs.Log.{read_step}
@@ -22,7 +22,7 @@ pub record Encoded (bs : List ℕ) (s : Step) (n : ℕ) : Type 0 where
 
 pub record RoundTrip : Type 0 where
   -- "steps write to those bytes": what the writer gives for a step reads back to that step, and to no further byte
-  pub written_is_read : (s : Step) (rest : List ℕ) → Writable s → read_step (step_bytes s ++ rest) ≡ Read s (length (step_bytes s))
+  pub written_is_read : (s : Step) (rest : List ℕ) → Writable s → read_step (step_bytes s ++ rest) ≡ one_step s (length (step_bytes s))
   -- "Log bytes read to the steps they encode": the bytes read for a step are those that the writer gives for it, and no others
   pub read_is_written :
-      (bs : List ℕ) (s : Step) (n : ℕ) → all_of (λ b. ltb b 256) bs ≡ true → read_step bs ≡ Read s n → Encoded bs s n
+      (bs : List ℕ) (s : Step) (n : ℕ) → all_of (λ b. ltb b 256) bs ≡ true → read_step bs ≡ one_step s n → Encoded bs s n

@@ -1,9 +1,11 @@
 -- What the program prints for a log (document 01, "The program and its print").
-use Rattle.std.specs.Prelude.{ℕ, zero, suc, ◌+◌, ◌/◌, ◌%◌, cond, List, [], ◌∷◌, ◌++◌, ltb, length}
+use Rattle.std.specs.Prelude.{ℕ, zero, suc, ◌+◌, ◌/◌, ◌%◌, cond, List, [], ◌∷◌, ◌++◌, ltb, length, Result, Ok, Err}
 use Rattle.types.specs.declared.step.Step.{Step}
 use Rattle.types.specs.declared.Stop.{Stop}
-use Rattle.types.specs.declared.Stop.TheVariants.{Ended, Spent, Damaged, Rejected}
+use Rattle.types.specs.declared.Stop.TheVariants.{Ended, Spent, Damaged}
+use Rattle.types.specs.declared.rejection.Rejection.{Rejection}
 use Rattle.types.specs.declared.Report.{Report}
+use Rattle.types.specs.Rejections.{rejection_number}
 use Rattle.model.specs.Setup.{initial_state}
 use Rattle.model.specs.Steps.{rejection, after}
 use Rattle.model.specs.Replay.{replayed, report, after_replay}
@@ -61,12 +63,15 @@ shard_line w z = zone_word ++ (spaced z ++ (spaced_all (stable_history w z) ++ n
 unfoldable pub stop_text : Stop → List ℕ
 stop_text Ended = ended_word
 stop_text Spent = spent_word
-stop_text (Damaged r) = damaged_word ++ spaced r
-stop_text (Rejected r) = rejected_word ++ spaced r
+stop_text (Damaged r) = damaged_word ++ spaced (rejection_number r)
 
 -- "Last: .., then tried, refused, bytes"
-unfoldable pub last_line : Report → List ℕ
-last_line r = stop_text r.stop ++ (spaced r.tried ++ (spaced r.rejected ++ (spaced r.bytes ++ newline)))
+unfoldable pub last_with : List ℕ → ℕ → ℕ → ℕ → List ℕ
+last_with stop tried rejected bytes = stop ++ (spaced tried ++ (spaced rejected ++ (spaced bytes ++ newline)))
+
+unfoldable pub last_line : Result Report Rejection → List ℕ
+last_line (Ok r) = last_with (stop_text r.stop) r.tried r.rejected r.bytes
+last_line (Err r) = last_with (rejected_word ++ spaced (rejection_number r)) 0 0 0
 
 -- "Plan: zone 0 sequencer 1, boxes 0 and 1, orderer 0; zone 1 sequencer 0, boxes 2 and 3, orderer 2. Budget 65,535."
 unfoldable pub program_plan : List ℕ

@@ -1,7 +1,6 @@
 -- Writing a step (document 01: "Writer: 3, 4, 7, 8; it returns the count of bytes written").
+use Rattle.types.specs.Rejections.{Written, answered}
 use Rattle.std.specs.Prelude.{ℕ, ◌+◌, ◌*◌, ◌^◌, Bool, cond, not, ◌&&◌, ◌||◌, List, [], ◌∷◌, ◌++◌, leb, ltb, eqb, length, take, drop}
-use Rattle.types.specs.declared.Writing.{Writing}
-use Rattle.types.specs.declared.Writing.TheVariants.{Bytes, Rejected}
 use Rattle.types.specs.declared.step.Step.{Step}
 use Rattle.model.specs.Checks.{first_of, ◌or_else◌}
 use Rattle.types.specs.Kinds.{kind_of, is_kept, is_unknown, used_numbers}
@@ -33,8 +32,8 @@ write_rejection out at s =
     ∷ [])
 
 -- what the writer answers
-unfoldable pub writing : List ℕ → ℕ → Step → Writing
-writing out at s = cond (eqb (write_rejection out at s) 0) (Bytes (length (step_bytes s))) (Rejected (write_rejection out at s))
+unfoldable pub writing : List ℕ → ℕ → Step → Written
+writing out at s = answered (write_rejection out at s) (length (step_bytes s))
 
 -- "Any lent output keeps what lies past the part written"; a rejection leaves it untouched
 unfoldable pub after_writing : List ℕ → ℕ → Step → List ℕ

@@ -1,4 +1,7 @@
 -- One turn of the loop that reads a number of several bytes. Assumes nothing.
+use Rattle.std.specs.Prelude.{Ok, Err}
+use Rattle.types.specs.declared.rejection.Rejection.TheVariants.{LogEnds, NumberForm}
+use Rattle.model.specs.Numbers.{ReadNumber, valued}
 use Prim.Native.Nat.{ℕ, zero, suc, ◌+◌, ◌*◌, ◌-◌, ◌%◌, ◌^◌, ◌≤◌, ◌<◌}
 use native.Mathlib.Nat.{mul-add, mul_assoc, mul-le-mul_left}
 use native.Mathlib.Omega.{arith}
@@ -10,39 +13,37 @@ use lib.ListN.{length, drop, get_or, drop_of_length-le}
 use lib.Pow.{pow-add, pow_mono}
 use lib.Seq.{drop-cons}
 use borrow.Author.Tests.{lt-ltb}
-use Rattle.types.specs.declared.Number.{Number}
-use Rattle.types.specs.declared.Number.TheVariants.{Value, Rejected}
 use Rattle.model.specs.Numbers.{read_groups, with_lower}
 use Rattle.model.proofs.Numbers.{read_more}
 
 -- a number after n bytes that have the value v; a further bit weighs w
-unfoldable pub shifted : ℕ → ℕ → ℕ → Number → Number
-shifted w v n (Value x m) = Value (v + w * x) (n + m)
-shifted w v n (Rejected r) = Rejected r
+unfoldable pub shifted : ℕ → ℕ → ℕ → ReadNumber → ReadNumber
+shifted w v n (Ok read) = valued (v + w * read.value) (n + read.bytes)
+shifted w v n (Err r) = Err r
 
 -- a further byte moves its seven bits into the value
-shifted_more : (w v n x : ℕ) (r : Number) → shifted w v n (with_lower x r) ≡ shifted (w * 128) (v + w * x) (n + 1) r
+shifted_more : (w v n x : ℕ) (r : ReadNumber) → shifted w v n (with_lower x r) ≡ shifted (w * 128) (v + w * x) (n + 1) r
 unfolding with_lower shifted
-shifted_more w v n x (Value y m) =
-    let value : v + w * (x + 128 * y) ≡ v + w * x + w * 128 * y = omega (arith, mul-add w x (128 * y), mul_assoc w 128 y) in
-    let count : n + suc m ≡ n + 1 + m = omega arith in
+shifted_more w v n x (Ok read) =
+    let value : v + w * (x + 128 * read.value) ≡ v + w * x + w * 128 * read.value = omega (arith, mul-add w x (128 * read.value), mul_assoc w 128 read.value) in
+    let count : n + suc read.bytes ≡ n + 1 + read.bytes = omega arith in
     rw (value, count)
-shifted_more w v n x (Rejected r) = refl
+shifted_more w v n x (Err r) = refl
 
-shifted_first : (low : ℕ) (r : Number) → with_lower low r ≡ shifted 128 low 1 r
+shifted_first : (low : ℕ) (r : ReadNumber) → with_lower low r ≡ shifted 128 low 1 r
 unfolding with_lower shifted
-shifted_first low (Value y m) = let count : suc m ≡ 1 + m = omega arith in rw count
-shifted_first low (Rejected r) = refl
+shifted_first low (Ok read) = let count : suc read.bytes ≡ 1 + read.bytes = omega arith in rw count
+shifted_first low (Err r) = refl
 
 -- the last byte of a number of several
 last_byte_lem : (w v n k b : ℕ) (bs : List ℕ) → b < 128
-    → shifted w v n (read_groups (suc k) false (b ∷ bs)) ≡ cond (eqb b 0) (Rejected 6) (Value (v + w * (b % 128)) (n + 1))
+    → shifted w v n (read_groups (suc k) false (b ∷ bs)) ≡ cond (eqb b 0) (Err NumberForm) (valued (v + w * (b % 128)) (n + 1))
 unfolding read_groups shifted
 last_byte_lem w v n k b bs h =
     let bits : b % 128 ≡ b = omega arith in
     rw (lt-ltb b 128 h, and-true, bits) (go (eqb b 0))
   where
-    go : (t : Bool) → shifted w v n (cond t (Rejected 6) (Value b 1)) ≡ cond t (Rejected 6) (Value (v + w * b) (n + 1))
+    go : (t : Bool) → shifted w v n (cond t (Err NumberForm) (valued b 1)) ≡ cond t (Err NumberForm) (valued (v + w * b) (n + 1))
     go true = refl
     go false = refl
 
@@ -62,14 +63,14 @@ module _ (log : List ℕ) (at low : ℕ) where
 
   module _ {v w n : ℕ} (t : Turn log at low v w n) where
     -- no byte is left
-    pub turn_ended : n < 5 → length log - at ≤ n → at < length log → Rejected 5 ≡ with_lower low (read_groups 4 false (drop (at + 1) log))
+    pub turn_ended : n < 5 → length log - at ≤ n → at < length log → Err LogEnds ≡ with_lower low (read_groups 4 false (drop (at + 1) log))
     unfolding read_groups shifted
     turn_ended h e i =
         let left : 5 - n ≡ suc (4 - n) = omega arith in
         rw (t.same, left, drop_of_length-le log {i = at + n} (omega arith))
 
     -- five bytes were read
-    pub turn_full : 5 ≤ n → Rejected 6 ≡ with_lower low (read_groups 4 false (drop (at + 1) log))
+    pub turn_full : 5 ≤ n → Err NumberForm ≡ with_lower low (read_groups 4 false (drop (at + 1) log))
     unfolding read_groups shifted
     turn_full h = let none : 5 - n ≡ zero = omega arith in rw (t.same, none)
 
@@ -94,7 +95,7 @@ module _ (log : List ℕ) (at low : ℕ) where
         here b e = let left : 5 - n ≡ suc (4 - n) = omega arith in rw (t.same, left, drop-cons log (at + n) 0 i, e)
 
         pub turn_last : (b : ℕ) → get_or log (at + n) 0 ≡ b → b < 128
-            → cond (eqb b 0) (Rejected 6) (Value (v + w * (b % 128)) (n + 1))
+            → cond (eqb b 0) (Err NumberForm) (valued (v + w * (b % 128)) (n + 1))
             ≡ with_lower low (read_groups 4 false (drop (at + 1) log))
         turn_last b e l = sym (here b e ∙ last_byte_lem w v n (4 - n) b _ l)
 

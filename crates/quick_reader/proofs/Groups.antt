@@ -1,4 +1,5 @@
 -- The number at the start of some bytes: its value, its count of bytes and its last byte. Assumes nothing.
+use Rattle.model.specs.Numbers.{valued}
 use Prim.Native.Nat.{ℕ, zero, suc, ◌+◌, ◌*◌, ◌%◌, ◌^◌, ◌≤◌, ◌<◌}
 use native.Mathlib.Nat.{mul-suc}
 use native.Mathlib.Decide.{dec_lt}
@@ -10,7 +11,6 @@ use lib.Dec.{ltb}
 use lib.ListN.{length}
 use lib.Pow.{pow-add, pow_pos}
 use borrow.Author.Tests.{lt-ltb, le-ltb}
-use Rattle.types.specs.declared.Number.TheVariants.{Value}
 use Rattle.model.specs.Numbers.{read_groups, with_lower}
 use Rattle.model.proofs.Numbers.{read_last, read_more}
 use Rattle.quick_reader.specs.Long.{groups_value, groups_count, last_byte}
@@ -48,15 +48,15 @@ byte_one b h = rw (lt-ltb b 128 h)
 -- it is read where its last byte is not 0
 pub groups_read :
     (k : ℕ) (is_first : Bool) (bs more : List ℕ) → length bs ≤ k → (last_byte bs ≡ 0 → ⊥)
-    → read_groups k is_first (bs ++ more) ≡ Value (groups_value bs) (groups_count bs)
+    → read_groups k is_first (bs ++ more) ≡ valued (groups_value bs) (groups_count bs)
 unfolding groups_value groups_count last_byte with_lower
 groups_read k is_first [] more l n = absurd (n refl)
 groups_read zero is_first (b ∷ bs) more l n = absurd (omega arith)
 groups_read (suc k) is_first (b ∷ bs) more l n = go (dec_lt b 128) (groups_read k false bs more (omega arith))
   where
     go :
-        Dec (b < 128) → ((last_byte bs ≡ 0 → ⊥) → read_groups k false (bs ++ more) ≡ Value (groups_value bs) (groups_count bs))
-        → read_groups (suc k) is_first (b ∷ (bs ++ more)) ≡ Value (groups_value (b ∷ bs)) (groups_count (b ∷ bs))
+        Dec (b < 128) → ((last_byte bs ≡ 0 → ⊥) → read_groups k false (bs ++ more) ≡ valued (groups_value bs) (groups_count bs))
+        → read_groups (suc k) is_first (b ∷ (bs ++ more)) ≡ valued (groups_value (b ∷ bs)) (groups_count (b ∷ bs))
     go (yes h) ih =
         let last = lt-ltb b 128 h in
         rw last (read_last k is_first b (bs ++ more) h (λ f. omega (arith, rw last at n)))

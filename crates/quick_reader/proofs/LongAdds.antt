@@ -1,4 +1,6 @@
 -- An add at a position whose entry may have several bytes. Assumes nothing.
+use Rattle.model.specs.Numbers.{valued}
+use Rattle.model.specs.Log.{one_step}
 use Prim.Native.Nat.{ℕ, suc, ◌+◌, ◌≤◌, ◌<◌}
 use native.Mathlib.Omega.{arith}
 use mathlib.Core.Path.{◌≡◌, sym, ap, ◌∙◌}
@@ -9,8 +11,6 @@ use lib.Dec.{leb, ltb, eqb}
 use lib.ListN.{length, drop, get_or}
 use lib.Seq.{drop-cons, drop-drop}
 use borrow.Author.Tests.{leb-true, le-leb, ltb-true, lt-ltb, eqb-true, eq-eqb, eqb-false, not-true}
-use Rattle.types.specs.declared.Number.TheVariants.{Value}
-use Rattle.types.specs.declared.Reading.TheVariants.{Step as Read}
 use Rattle.types.specs.Kinds.{kind_of, used_numbers}
 use Rattle.model.specs.Log.{step_of, read_step, read_at}
 use Rattle.model.specs.Numbers.{read_number}
@@ -101,15 +101,15 @@ module _ (l : List ℕ) (at : ℕ) where
     pub long_joined : joined_bytes < 128
     long_joined = or_lt 7 _ _ (or_lt 7 _ _ long_shard long_index) long_last
 
-    entry_read : read_number (drop 3 (drop at l)) ≡ Value (long_entry l at) (groups_count (entry_bytes l at))
+    entry_read : read_number (drop 3 (drop at l)) ≡ valued (long_entry l at) (groups_count (entry_bytes l at))
     unfolding read_number long_entry entry_bytes
     entry_read =
         rw (drop-drop 3 at l, five_bytes long_fits) (groups_read 5 true (entry_bytes l at) (drop (at + 8) l) (omega arith) long_ends)
 
-    kind_read : read_number (drop at l) ≡ Value 1 1
+    kind_read : read_number (drop at l) ≡ valued 1 1
     kind_read = rw long_kind at (read_one l at (omega (arith, long_fits)) (omega (arith, long_kind)))
 
-    pub long_first : read_step (drop at l) ≡ Read (long_step l at) (long_length l at)
+    pub long_first : read_step (drop at l) ≡ one_step (long_step l at) (long_length l at)
     unfolding long_step long_length fourth_numbers kind_of used_numbers step_of
     long_first =
         let n : ℕ = groups_count (entry_bytes l at) in
@@ -119,5 +119,5 @@ module _ (l : List ℕ) (at : ℕ) where
         (read_one_after l at 2 (omega (arith, long_fits)) long_index)
         entry_read (step_done 1 _ (drop at l) (3 + n)))
 
-    pub long_read : read_at l at ≡ Read (long_step l at) (at + long_length l at)
+    pub long_read : read_at l at ≡ one_step (long_step l at) (at + long_length l at)
     long_read = step_at l at long_first

@@ -1,4 +1,6 @@
 -- A step at a position whose numbers have one byte each. Assumes nothing.
+use Rattle.model.specs.Numbers.{valued}
+use Rattle.model.specs.Log.{one_step}
 use Prim.Native.Nat.{ℕ, zero, suc, ◌+◌, ◌*◌, ◌≤◌, ◌<◌}
 use native.Mathlib.Omega.{arith}
 use mathlib.Core.Path.{◌≡◌, refl, sym, ◌∙◌}
@@ -8,8 +10,6 @@ use lib.Bits.{bit_or}
 use lib.Dec.{leb, ltb}
 use lib.ListN.{length, drop, get_or}
 use borrow.Author.Tests.{leb-true, le-leb, ltb-true}
-use Rattle.types.specs.declared.Number.TheVariants.{Value}
-use Rattle.types.specs.declared.Reading.TheVariants.{Step as Read}
 use Rattle.types.specs.Kinds.{kind_of, is_kept, is_unknown}
 use Rattle.model.specs.Log.{step_of, read_step, read_at}
 use Rattle.model.specs.Numbers.{read_number, read_numbers}
@@ -78,14 +78,14 @@ module _ (l : List ℕ) (at : ℕ) where
     pub short_kind : Known (kind_of (get_or l at 0))
     short_kind = kind_told (get_or l at 0) short_kind_least short_kind_most
 
-    one : (i : ℕ) → i < 4 → read_number (drop (suc i) (drop at l)) ≡ Value (get_or l (at + suc i) 0) 1
+    one : (i : ℕ) → i < 4 → read_number (drop (suc i) (drop at l)) ≡ valued (get_or l (at + suc i) 0) 1
     one i m =
         read_one_after l at (suc i) (omega (arith, short_fits)) (ltb-true _ _ (all_below_lem 4 is_one passed.1.1.1.0 i m))
 
     -- the fourth number, or 0
     rest :
         (k f a b c : ℕ) → f ≤ 1
-        → Read (step_of k (a ∷ b ∷ c ∷ get_or l (at + 4) 0 * f ∷ [])) (4 + f)
+        → one_step (step_of k (a ∷ b ∷ c ∷ get_or l (at + 4) 0 * f ∷ [])) (4 + f)
         ≡ with_prior k (a ∷ b ∷ c ∷ []) 4 (read_numbers f (drop 4 (drop at l)))
     unfolding step_of
     rest k zero a b c m =
@@ -98,7 +98,7 @@ module _ (l : List ℕ) (at : ℕ) where
         (step_done k (a ∷ b ∷ c ∷ get_or l (at + 4) 0 ∷ []) (drop at l) 5))
     rest k (suc (suc f)) a b c m = absurd (omega arith)
 
-    pub short_first : read_step (drop at l) ≡ Read (short_step l at) (short_length l at)
+    pub short_first : read_step (drop at l) ≡ one_step (short_step l at) (short_length l at)
     unfolding short_step short_length short_fourth
     short_first =
         let k : ℕ = get_or l at 0 in
@@ -106,5 +106,5 @@ module _ (l : List ℕ) (at : ℕ) where
         (three_numbers (drop at l) k short_kind (read_one l at (omega (arith, short_fits)) (omega (arith, short_kind_most))) (one 0 (omega arith))
         (one 1 (omega arith)) (one 2 (omega arith)) (rest k (fourth_numbers k) _ _ _ (fourth_most k)))
 
-    pub short_read : read_at l at ≡ Read (short_step l at) (at + short_length l at)
+    pub short_read : read_at l at ≡ one_step (short_step l at) (at + short_length l at)
     short_read = step_at l at short_first

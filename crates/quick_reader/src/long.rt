@@ -1,8 +1,9 @@
 // Adds whose entry may have several bytes, as the words of issues and of larger takes have. No branch depends on how many: a byte below 128 takes the
 // bytes after it out of the number.
+ghost use Rattle.types.specs.Rejections.{answer_number};
 ghost use Rattle.std.specs.Prelude.{◌≡◌, true, cond, suc, ◌+◌, ◌*◌, ◌%◌, ◌^◌, ◌≤◌, ◌<◌, ltb, length, get_or, drop};
 ghost use Rattle.model.specs.Log.{read_at};
-ghost use Rattle.model.specs.Results.{reading_number, reading_step, reading_next, read_rejection, step_read, next_read};
+ghost use Rattle.model.specs.Results.{reading_step, reading_next, read_rejection, step_read, next_read};
 ghost use Rattle.quick_reader.specs.Long.{last_byte, entry_bytes, is_long_add_at, long_entry, long_length, long_step};
 
 use types::Reading;
@@ -101,7 +102,7 @@ pub fn step(log: &[u8], at: usize) -> Step
 // What is read there: the step, and the position after it.
 pub fn reading(log: &[u8], at: usize) -> Reading
     requires { is_long_add_at log.now at ≡ true }
-    ensures result_value { reading_number result ≡ read_rejection (drop at log.now) }
+    ensures result_value { answer_number result ≡ read_rejection (drop at log.now) }
     ensures result_value_2 { reading_step result ≡ step_read (drop at log.now) }
     ensures result_value_3 { reading_next result ≡ next_read log.now at }
     ensures value { result ≡ read_at log.now at }

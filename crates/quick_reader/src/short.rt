@@ -1,8 +1,9 @@
 // Steps whose numbers have one byte each, as most have. They are told with one test of four bytes, and read with no branch on the kind, which is hard to
 // foretell.
+ghost use Rattle.types.specs.Rejections.{answer_number};
 ghost use Rattle.std.specs.Prelude.{◌≡◌, true, drop};
 ghost use Rattle.model.specs.Log.{read_at};
-ghost use Rattle.model.specs.Results.{reading_number, reading_step, reading_next, read_rejection, step_read, next_read};
+ghost use Rattle.model.specs.Results.{reading_step, reading_next, read_rejection, step_read, next_read};
 ghost use Rattle.quick_reader.specs.Short.{is_short_at, short_fourth, short_length, short_step};
 
 use types::Reading;
@@ -66,7 +67,7 @@ pub fn step(log: &[u8], at: usize) -> Step
 // What is read there: the step, and the position after it.
 pub fn reading(log: &[u8], at: usize) -> Reading
     requires { is_short_at log.now at ≡ true }
-    ensures result_value { reading_number result ≡ read_rejection (drop at log.now) }
+    ensures result_value { answer_number result ≡ read_rejection (drop at log.now) }
     ensures result_value_2 { reading_step result ≡ step_read (drop at log.now) }
     ensures result_value_3 { reading_next result ≡ next_read log.now at }
     ensures value { result ≡ read_at log.now at }

@@ -1,4 +1,6 @@
 -- What the text function answers and leaves, by the tests that are made in turn. Assumes nothing.
+use Rattle.std.specs.Prelude.{Ok, Err}
+use Rattle.types.specs.Rejections.{Written, answer_count, answer_number}
 use Prim.Native.Nat.{ℕ, ◌≤◌, ◌<◌}
 use native.Mathlib.Nat.{zero-add}
 use native.Mathlib.Omega.{arith}
@@ -8,12 +10,9 @@ use mathlib.Core.List.{List}
 use lib.ListN.{length}
 use lib.Seq.{sets, sets-eq}
 use borrow.Author.Tests.{le-leb, lt-leb, ne_eqb}
-use Rattle.types.specs.declared.Writing.{Writing}
-use Rattle.types.specs.declared.Writing.TheVariants.{Bytes, Rejected}
 use Rattle.model.specs.Checks.{first_of}
 use Rattle.model.specs.Layout.{shards_of, is_state_length}
 use Rattle.model.specs.WellFormed.{well_formed}
-use Rattle.model.specs.Results.{writing_number, writing_count}
 use Rattle.model.proofs.Lengths.{several}
 use Rattle.model.proofs.Results.{counted}
 use Rattle.lookup.proofs.Formed.{formed_of}
@@ -27,17 +26,17 @@ passed w e z f = record { formed = formed_of w z f; shards = e }
 
 module _ (w out : List ℕ) where
   -- in numbers and as a value
-  abbrev Answers : Writing → List ℕ → Type 0
+  abbrev Answers : Written → List ℕ → Type 0
   Answers r v =
-      (writing_number r ≡ csv_rejection w out) × ((writing_count r ≡ csv_count w out) × ((r ≡ csv_writing w out) × (v ≡ after_csv w out)))
+      (answer_number r ≡ csv_rejection w out) × ((answer_count r ≡ csv_count w out) × ((r ≡ csv_writing w out) × (v ≡ after_csv w out)))
 
-  answers : {r : Writing} {v : List ℕ} → r ≡ csv_writing w out → v ≡ after_csv w out → Answers r v
+  answers : {r : Written} {v : List ℕ} → r ≡ csv_writing w out → v ≡ after_csv w out → Answers r v
   unfolding csv_writing csv_count
   answers e f = let c = counted (csv_rejection w out) (csv w) e in (c.0, (c.1, (e, f)))
 
   -- a rejection leaves the output
   abbrev Rejects : ℕ → Type 0
-  Rejects k = Answers (Rejected k) out
+  Rejects k = Answers (Err k) out
 
   rejects : (k : ℕ) → (k ≡ 0 → ⊥) → csv_rejection w out ≡ k → Rejects k
   unfolding csv_writing after_csv after_listing_of
@@ -66,7 +65,7 @@ module _ (w out : List ℕ) where
       unfolding csv_rejection first_of has_room
       accepted = simp (long, f.formed.formed, le-leb (length (csv w)) (length out) r)
 
-      pub writes : {k : ℕ} {v : List ℕ} → k ≡ length (csv w) → v ≡ sets out 0 (csv w) → Answers (Bytes k) v
+      pub writes : {k : ℕ} {v : List ℕ} → k ≡ length (csv w) → v ≡ sets out 0 (csv w) → Answers (Ok k) v
       unfolding csv_writing after_csv after_listing_of
       writes e g =
           answers (rw (accepted, e)) (rw (accepted, g, sets-eq (csv w) out 0 (omega (arith, r))) (rw (zero-add (length (csv w)))))

@@ -3,8 +3,8 @@
 
 #![tactic(auto)]
 
+ghost use Rattle.types.specs.Rejections.{answer_count, answer_number};
 ghost use Rattle.std.specs.Prelude.{◌≡◌};
-ghost use Rattle.model.specs.Results.{writing_number, writing_count};
 ghost use Rattle.csv_rows.specs.Csv.{csv_rejection, csv_count, csv_writing, after_csv};
 
 use crate::text::{HEADER_BYTES, SHARD_MOST};
@@ -15,8 +15,8 @@ mod text;
 
 // Writes the text of a state: its length, or the rejection (1, 9 or 8), which leaves the output untouched.
 pub fn csv(state: &[u64], out: &mut [u8]) -> Writing
-    ensures result_value { writing_number result ≡ csv_rejection state.now out.old }
-    ensures result_value_2 { writing_count result ≡ csv_count state.now out.old }
+    ensures result_value { answer_number result ≡ csv_rejection state.now out.old }
+    ensures result_value_2 { answer_count result ≡ csv_count state.now out.old }
     ensures value { result ≡ csv_writing state.now out.old }
     ensures out_after { out.new ≡ after_csv state.now out.old }
 {

@@ -1,5 +1,7 @@
 -- A run at one of its turns: what is still to come, together with what was counted, is what the whole run reports and leaves.
 -- Assumes nothing.
+use Rattle.std.specs.Prelude.{Ok, Err, Some, None}
+use Rattle.model.specs.Log.{ReadStep, one_step}
 use Prim.Native.Nat.{ℕ, suc, ◌+◌, ◌-◌, ◌≤◌, ◌<◌}
 use native.Mathlib.Nat.{zero-add, add-zero, add_assoc, sub-zero}
 use native.Mathlib.Omega.{arith}
@@ -10,8 +12,6 @@ use lib.Dec.{eqb}
 use lib.ListN.{length, drop, drop_of_length-le, length-drop}
 use lib.Seq.{drop-drop, drop-cons}
 use Rattle.types.specs.declared.step.Step.{Step}
-use Rattle.types.specs.declared.Reading.{Reading}
-use Rattle.types.specs.declared.Reading.TheVariants.{Step as Read, End, Rejected}
 use Rattle.types.specs.declared.Stop.{Stop}
 use Rattle.types.specs.declared.Stop.TheVariants.{Ended, Spent, Damaged}
 use Rattle.types.specs.declared.Report.{Report}
@@ -47,44 +47,44 @@ rest_start w log budget =
     }
 
 -- what was read at a position
-pub read_step_lem : (log : List ℕ) (at : ℕ) (s : Step) (next : ℕ) → read_at log at ≡ Read s next
-    → (n : ℕ) × (read_step (drop at log) ≡ Read s n) × (next ≡ at + n)
+pub read_step_lem : (log : List ℕ) (at : ℕ) (s : Step) (next : ℕ) → read_at log at ≡ one_step s next
+    → (n : ℕ) × (read_step (drop at log) ≡ one_step s n) × (next ≡ at + n)
 unfolding read_at from
 read_step_lem log at s next e = go (read_step (drop at log)) refl e
   where
-    go : (x : Reading) → read_step (drop at log) ≡ x → from at x ≡ Read s next → (n : ℕ) × (read_step (drop at log) ≡ Read s n) × (next ≡ at + n)
-    go (Read t m) q p = (m, q ∙ (cc), (cc))
-    go End q p = absurd (let z : ◌≡◌ {A = ℕ} 0 1 = cc in omega arith)
-    go (Rejected r) q p = absurd (let z : ◌≡◌ {A = ℕ} 0 1 = cc in omega arith)
+    go : (x : ReadStep) → read_step (drop at log) ≡ x → from at x ≡ one_step s next → (n : ℕ) × (read_step (drop at log) ≡ one_step s n) × (next ≡ at + n)
+    go (Ok (Some read)) q p = (read.next, q ∙ (cc), (cc))
+    go (Ok None) q p = absurd (let z : ◌≡◌ {A = ℕ} 0 1 = cc in omega arith)
+    go (Err r) q p = absurd (let z : ◌≡◌ {A = ℕ} 0 1 = cc in omega arith)
 
-read_end : (log : List ℕ) (at : ℕ) → read_at log at ≡ End → read_step (drop at log) ≡ End
+read_end : (log : List ℕ) (at : ℕ) → read_at log at ≡ (Ok None) → read_step (drop at log) ≡ (Ok None)
 unfolding read_at from
 read_end log at e = go (read_step (drop at log)) refl e
   where
-    go : (x : Reading) → read_step (drop at log) ≡ x → from at x ≡ End → read_step (drop at log) ≡ End
-    go (Read t m) q p = absurd (let z : ◌≡◌ {A = ℕ} 0 1 = cc in omega arith)
-    go End q p = q
-    go (Rejected r) q p = absurd (let z : ◌≡◌ {A = ℕ} 0 1 = cc in omega arith)
+    go : (x : ReadStep) → read_step (drop at log) ≡ x → from at x ≡ (Ok None) → read_step (drop at log) ≡ (Ok None)
+    go (Ok (Some read)) q p = absurd (let z : ◌≡◌ {A = ℕ} 0 1 = cc in omega arith)
+    go (Ok None) q p = q
+    go (Err r) q p = absurd (let z : ◌≡◌ {A = ℕ} 0 1 = cc in omega arith)
 
-pub read_rejected : (log : List ℕ) (at r : ℕ) → read_at log at ≡ Rejected r → read_step (drop at log) ≡ Rejected r
+pub read_rejected : (log : List ℕ) (at r : ℕ) → read_at log at ≡ Err r → read_step (drop at log) ≡ Err r
 unfolding read_at from
 read_rejected log at r e = go (read_step (drop at log)) refl e
   where
-    go : (x : Reading) → read_step (drop at log) ≡ x → from at x ≡ Rejected r → read_step (drop at log) ≡ Rejected r
-    go (Read t m) q p = absurd (let z : ◌≡◌ {A = ℕ} 0 1 = cc in omega arith)
-    go End q p = absurd (let z : ◌≡◌ {A = ℕ} 0 1 = cc in omega arith)
-    go (Rejected x) q p = q ∙ p
+    go : (x : ReadStep) → read_step (drop at log) ≡ x → from at x ≡ Err r → read_step (drop at log) ≡ Err r
+    go (Ok (Some read)) q p = absurd (let z : ◌≡◌ {A = ℕ} 0 1 = cc in omega arith)
+    go (Ok None) q p = absurd (let z : ◌≡◌ {A = ℕ} 0 1 = cc in omega arith)
+    go (Err x) q p = q ∙ p
 
 -- one turn of the definition
-log_step : (n : ℕ) (bs : List ℕ) (s : Step) (k : ℕ) → read_step bs ≡ Read s k → read_log (suc n) bs ≡ with_step s k (read_log n (drop k bs))
+log_step : (n : ℕ) (bs : List ℕ) (s : Step) (k : ℕ) → read_step bs ≡ one_step s k → read_log (suc n) bs ≡ with_step s k (read_log n (drop k bs))
 unfolding read_log log_after
 log_step n bs s k e = rw e
 
-log_end : (n : ℕ) (bs : List ℕ) → read_step bs ≡ End → read_log (suc n) bs ≡ stopped Ended
+log_end : (n : ℕ) (bs : List ℕ) → read_step bs ≡ (Ok None) → read_log (suc n) bs ≡ stopped Ended
 unfolding read_log log_after
 log_end n bs e = rw e
 
-log_damaged : (n : ℕ) (bs : List ℕ) (r : ℕ) → read_step bs ≡ Rejected r → read_log (suc n) bs ≡ stopped (Damaged r)
+log_damaged : (n : ℕ) (bs : List ℕ) (r : ℕ) → read_step bs ≡ Err r → read_log (suc n) bs ≡ stopped (Damaged r)
 unfolding read_log log_after
 log_damaged n bs r e = rw e
 
@@ -93,7 +93,7 @@ module _ (log : List ℕ) (budget at tried : ℕ) where
   one_less : tried < budget → budget - tried ≡ suc (budget - (tried + 1))
   one_less h = omega arith
 
-  pub reads_step : (s : Step) (next : ℕ) → tried < budget → read_at log at ≡ Read s next
+  pub reads_step : (s : Step) (next : ℕ) → tried < budget → read_at log at ≡ one_step s next
       → (read_log (budget - tried) (drop at log)).steps ≡ s ∷ (read_log (budget - (tried + 1)) (drop next log)).steps
   unfolding with_step
   reads_step s next h e =
@@ -101,10 +101,10 @@ module _ (log : List ℕ) (budget at tried : ℕ) where
       let there : drop d.0 (drop at log) ≡ drop next log = drop-drop d.0 at log ∙ ap (λ (k : ℕ). drop k log) (sym d.2) in
       rw (one_less h, log_step (budget - (tried + 1)) (drop at log) s d.0 d.1, there)
 
-  pub reads_end : tried < budget → read_at log at ≡ End → read_log (budget - tried) (drop at log) ≡ stopped Ended
+  pub reads_end : tried < budget → read_at log at ≡ (Ok None) → read_log (budget - tried) (drop at log) ≡ stopped Ended
   reads_end h e = rw (one_less h) (log_end (budget - (tried + 1)) (drop at log) (read_end log at e))
 
-  pub reads_damage : (r : ℕ) → tried < budget → read_at log at ≡ Rejected r → read_log (budget - tried) (drop at log) ≡ stopped (Damaged r)
+  pub reads_damage : (r : ℕ) → tried < budget → read_at log at ≡ Err r → read_log (budget - tried) (drop at log) ≡ stopped (Damaged r)
   reads_damage r h e = rw (one_less h) (log_damaged (budget - (tried + 1)) (drop at log) r (read_rejected log at r e))
 
   -- the budget is used up: ended where no byte is left, else spent
@@ -117,7 +117,7 @@ module _ (log : List ℕ) (budget at tried : ℕ) where
   reads_part h l = let b : budget - tried ≡ 0 = omega arith in rw (b, drop-cons log at 0 l)
 
 -- a run of one step more
-run_step : (w bs : List ℕ) (n : ℕ) (s : Step) (k : ℕ) → read_step bs ≡ Read s k
+run_step : (w bs : List ℕ) (n : ℕ) (s : Step) (k : ℕ) → read_step bs ≡ one_step s k
     → run_report w bs (suc n) ≡ counted 1 (cond (eqb (rejection w s) 0) 0 1) k (run_report (after w s) (drop k bs) n)
 unfolding run_report counted rejected_in with_step
 run_step w bs n s k e = rw (log_step n bs s k e) (λ i. record {
@@ -130,7 +130,7 @@ run_step w bs n s k e = rw (log_step n bs s k e) (λ i. record {
     one_add : (m : ℕ) → suc m ≡ 1 + m
     one_add m = omega arith
 
-run_after : (w bs : List ℕ) (n : ℕ) (s : Step) (k : ℕ) → read_step bs ≡ Read s k → after_run w bs (suc n) ≡ after_run (after w s) (drop k bs) n
+run_after : (w bs : List ℕ) (n : ℕ) (s : Step) (k : ℕ) → read_step bs ≡ one_step s k → after_run w bs (suc n) ≡ after_run (after w s) (drop k bs) n
 unfolding after_run after_all with_step
 run_after w bs n s k e = rw (log_step n bs s k e)
 
@@ -147,7 +147,7 @@ counted_twice t r b t' r' b' x =
 
 module _ {w₀ log : List ℕ} {budget : ℕ} {w : List ℕ} {at tried rejected : ℕ} (x : Rest w₀ log budget w at tried rejected) where
   -- a step is read and tried
-  pub rest_step : (s : Step) (next : ℕ) → tried < budget → read_at log at ≡ Read s next
+  pub rest_step : (s : Step) (next : ℕ) → tried < budget → read_at log at ≡ one_step s next
       → Rest w₀ log budget (after w s) next (tried + 1) (rejected + cond (eqb (rejection w s) 0) 0 1)
   rest_step s next h e =
       let d = read_step_lem log at s next e in
@@ -175,7 +175,7 @@ module _ {w₀ log : List ℕ} {budget : ℕ} {w : List ℕ} {at tried rejected 
       one_at_most true = omega arith
       one_at_most false = omega arith
 
-      there : (d : (n : ℕ) × (read_step (drop at log) ≡ Read s n) × (next ≡ at + n)) → drop d.0 (drop at log) ≡ drop next log
+      there : (d : (n : ℕ) × (read_step (drop at log) ≡ one_step s n) × (next ≡ at + n)) → drop d.0 (drop at log) ≡ drop next log
       there d = drop-drop d.0 at log ∙ ap (λ (k : ℕ). drop k log) (sym d.2)
 
   -- the definition stops here: what was counted is the report, and the state is left
@@ -189,11 +189,11 @@ module _ {w₀ log : List ℕ} {budget : ℕ} {w : List ℕ} {at tried rejected 
     sym (x.state_is ∙ rw e),
   )
 
-  pub rest_end : tried < budget → read_at log at ≡ End
+  pub rest_end : tried < budget → read_at log at ≡ (Ok None)
       → (report_of Ended tried rejected at ≡ run_report w₀ log budget) × (w ≡ after_run w₀ log budget)
   rest_end h e = stops (reads_end log budget at tried h e)
 
-  pub rest_damaged : (r : ℕ) → tried < budget → read_at log at ≡ Rejected r
+  pub rest_damaged : (r : ℕ) → tried < budget → read_at log at ≡ Err r
       → (report_of (Damaged r) tried rejected at ≡ run_report w₀ log budget) × (w ≡ after_run w₀ log budget)
   rest_damaged r h e = stops (reads_damage log budget at tried r h e)
 

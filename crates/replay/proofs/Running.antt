@@ -1,5 +1,6 @@
 -- The run's loop: its invariant, and its turns.
 -- Assumes nothing.
+use Rattle.model.specs.Log.{one_step}
 use Prim.Native.Nat.{ℕ, ◌+◌, ◌<◌}
 use native.Mathlib.Nat.{add-zero}
 use mathlib.Core.Path.{◌≡◌, refl, sym, ap, ap₂, subst, ◌∙◌}
@@ -9,7 +10,6 @@ use lib.Dec.{eqb}
 use lib.ListN.{length}
 use borrow.Author.Tests.{eq-eqb, ne_eqb}
 use Rattle.types.specs.declared.step.Step.{Step}
-use Rattle.types.specs.declared.Reading.TheVariants.{Step as Read}
 use Rattle.model.specs.Layout.{shards_of}
 use Rattle.model.specs.Steps.{rejection, after}
 use Rattle.model.specs.Log.{read_at}
@@ -34,8 +34,8 @@ formed_after {w} f s =
     }
 
 -- a step and its bytes, as the code has them
-pub read_as : (log : List ℕ) (at : ℕ) {s t : Step} {m n : ℕ} → read_at log at ≡ Read t (at + n) → s ≡ t → m ≡ n → read_at log at ≡ Read s (at + m)
-read_as log at e p q = e ∙ ap₂ (λ (x : Step) (k : ℕ). Read x (at + k)) (sym p) (sym q)
+pub read_as : (log : List ℕ) (at : ℕ) {s t : Step} {m n : ℕ} → read_at log at ≡ one_step t (at + n) → s ≡ t → m ≡ n → read_at log at ≡ one_step s (at + m)
+read_as log at e p q = e ∙ ap₂ (λ (x : Step) (k : ℕ). one_step x (at + k)) (sym p) (sym q)
 
 -- what a step answers and leaves is what another that is the same does
 pub tried_as : (w : List ℕ) {v : List ℕ} {a : ℕ} {s t : Step} → s ≡ t → (a ≡ rejection w s) × (v ≡ after w s) → (a ≡ rejection w t) × (v ≡ after w t)
@@ -50,7 +50,7 @@ pub start : (w log : List ℕ) (budget : ℕ) → Formed w → Running w log bud
 start w log budget f = record { rest = rest_start w log budget; formed = f; long = refl }
 
 module _ {w₀ log : List ℕ} {budget : ℕ} {w : List ℕ} {at tried rejected : ℕ} (x : Running w₀ log budget w at tried rejected) (s : Step) (next : ℕ)
-    (h : tried < budget) (e : read_at log at ≡ Read s next) where
+    (h : tried < budget) (e : read_at log at ≡ one_step s next) where
   stepped : Running w₀ log budget (after w s) next (tried + 1) (rejected + cond (eqb (rejection w s) 0) 0 1)
   stepped =
       record {

@@ -1,10 +1,10 @@
 -- The stable prefix of a replica as words of the state.
+use Rattle.types.specs.Rejections.{Written}
 use Rattle.std.specs.Prelude.{ℕ, ◌+◌, ◌≤◌, List, [], ◌∷◌, length, get_or, take, drop}
 use Rattle.model.specs.Checks.{first_of}
 use Rattle.model.specs.Replicas.{most_entries}
 use Rattle.types.specs.ReplicaPlace.{part_words}
 use Rattle.model.specs.Results.{count_beside}
-use Rattle.stable_entries.specs.declared.Listing.{Listing}
 use Rattle.stable_entries.specs.Listing.{has_room, listing_of, after_listing_of}
 
 -- as many words from the ninth on as the third word says
@@ -25,7 +25,7 @@ unfoldable pub copied_count : List ℕ → ℕ → List ℕ → ℕ
 copied_count w at out = count_beside (copying_rejection w at out) (entries_at w at)
 
 -- both as one answer
-unfoldable pub copying : List ℕ → ℕ → List ℕ → Listing
+unfoldable pub copying : List ℕ → ℕ → List ℕ → Written
 copying w at out = listing_of (copying_rejection w at out) (entries_at w at)
 
 -- what is left of the output

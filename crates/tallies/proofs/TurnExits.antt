@@ -1,5 +1,7 @@
 -- A turn of a replay that keeps a tally: the step that it tries, what it is at each of its exits, and what it does to a replay that is under way.
 -- Assumes nothing.
+use Rattle.std.specs.Prelude.{Ok, Err, Some, None}
+use Rattle.model.specs.Log.{ReadStep, one_step}
 use Prim.Native.Nat.{ℕ, ◌+◌, ◌≤◌, ◌<◌, ◌^◌}
 use native.Mathlib.Omega.{arith}
 use mathlib.Core.Path.{◌≡◌, refl, sym, ap, ◌∙◌}
@@ -9,8 +11,6 @@ use lib.Dec.{leb, eqb}
 use lib.ListN.{length, drop}
 use borrow.Author.Tests.{le-leb, lt-leb, leb-true, leb-false, eq-eqb, ne_eqb, eqb-true, eqb-false}
 use Rattle.types.specs.declared.step.Step.{Step}
-use Rattle.types.specs.declared.Reading.{Reading}
-use Rattle.types.specs.declared.Reading.TheVariants.{Step as Read, End, Rejected as Damage}
 use Rattle.types.specs.declared.Stop.TheVariants.{Ended, Spent, Damaged}
 use Rattle.types.specs.declared.Report.{Report}
 use Rattle.types.specs.Kinds.{kind_of}
@@ -32,14 +32,14 @@ use Rattle.tallies.proofs.Turning.{stops_here, accepts_one, rejects_one}
 -- ---- a step that a turn read and tried: a is its answer, and v the state that it leaves
 
 -- a step that was read has a kind that is known
-known_step : (log : List ℕ) (at : ℕ) (s : Step) (next : ℕ) → read_at log at ≡ Read s next → Known (kind_of s.kind)
+known_step : (log : List ℕ) (at : ℕ) (s : Step) (next : ℕ) → read_at log at ≡ one_step s next → Known (kind_of s.kind)
 known_step log at s next e =
     let d = read_step_lem log at s next e in
     let g = (step_given (drop at log) d.1).writable in
     record { not_kept = g.not_kept; known = g.known }
 
 module _ {w : List ℕ} (log : List ℕ) (budget at tried rejected : ℕ) (f : Formed w) (fewer : rejected ≤ tried) (s : Step) (next : ℕ)
-    (h : tried < budget) (e : read_at log at ≡ Read s next) {a : ℕ} (p : a ≡ rejection w s) {v : List ℕ} (q : v ≡ after w s) where
+    (h : tried < budget) (e : read_at log at ≡ one_step s next) {a : ℕ} (p : a ≡ rejection w s) {v : List ℕ} (q : v ≡ after w s) where
   -- where it is rejected, it has a host to be looked for
   has_host : (a ≡ 0 → ⊥) → RejectedStep v s a
   has_host n =
@@ -71,18 +71,18 @@ module _ (w log : List ℕ) (budget : ℕ) (r : Report) where
   exit_spent h l = (rw (le-leb budget r.tried h, lt-leb (length log) r.bytes l), rw (le-leb budget r.tried h))
 
   module _ (h : r.tried < budget) where
-    pub exit_end : read_at log r.bytes ≡ End
+    pub exit_end : read_at log r.bytes ≡ (Ok None)
         → Turns w log budget r w (ended (report_of Ended r.tried r.rejected r.bytes))
     unfolding turn_of turn_state turn_read state_read
     exit_end e = (rw (lt-leb budget r.tried h, e), rw (lt-leb budget r.tried h, e))
 
-    pub exit_damaged : (d : ℕ) → read_at log r.bytes ≡ Damage d
+    pub exit_damaged : (d : ℕ) → read_at log r.bytes ≡ Err d
         → Turns w log budget r w (ended (report_of (Damaged d) r.tried r.rejected r.bytes))
     unfolding turn_of turn_state turn_read state_read
     exit_damaged d e = (rw (lt-leb budget r.tried h, e), rw (lt-leb budget r.tried h, e))
 
     -- a is the step's answer, and v the state that it leaves
-    module _ (s : Step) (next : ℕ) (e : read_at log r.bytes ≡ Read s next) {a : ℕ} (p : a ≡ rejection w s) {v : List ℕ} (q : v ≡ after w s) where
+    module _ (s : Step) (next : ℕ) (e : read_at log r.bytes ≡ one_step s next) {a : ℕ} (p : a ≡ rejection w s) {v : List ℕ} (q : v ≡ after w s) where
       left_is : v ≡ turn_state w log budget r
       unfolding turn_state state_read
       left_is = q ∙ rw (lt-leb budget r.tried h, e)
@@ -122,7 +122,7 @@ module _ {w₀ log : List ℕ} {budget : ℕ} {w : List ℕ} {r : Report} {t : T
       by_bytes l true h = stops_here t₀ u (reads_all log budget r.bytes r.tried l (leb-true (length log) r.bytes h))
       by_bytes l false h = stops_here t₀ u (reads_part log budget r.bytes r.tried l (leb-false (length log) r.bytes h))
 
-      by_answer : (s : Step) (next : ℕ) → r.tried < budget → read_at log r.bytes ≡ Read s next → (b : Bool) → eqb (rejection w s) 0 ≡ b
+      by_answer : (s : Step) (next : ℕ) → r.tried < budget → read_at log r.bytes ≡ one_step s next → (b : Bool) → eqb (rejection w s) 0 ≡ b
           → Turned t₀ w₀ log budget r (after w s)
           (cond b (goes_on (report_of Spent (r.tried + 1) r.rejected next) 17)
           (goes_on (report_of Spent (r.tried + 1) (r.rejected + 1) next) (count_of w s))) t
@@ -132,10 +132,10 @@ module _ {w₀ log : List ℕ} {budget : ℕ} {w : List ℕ} {r : Report} {t : T
           let fits : r.rejected + 1 < 2 ^ 64 = omega (arith, small, l, u.running.rest.fewer) in
           rejects_one t₀ u s next l h refl refl no fits (ap (λ (x : List ℕ). count_of x s) (sym (after_rejected w s no)))
 
-      by_reading : r.tried < budget → (x : Reading) → read_at log r.bytes ≡ x → Turned t₀ w₀ log budget r (state_read w x) (turn_read w r x) t
-      by_reading l (Read s next) h = by_answer s next l h (eqb (rejection w s) 0) refl
-      by_reading l End h = stops_here t₀ u (reads_end log budget r.bytes r.tried l h)
-      by_reading l (Damage d) h = stops_here t₀ u (reads_damage log budget r.bytes r.tried d l h)
+      by_reading : r.tried < budget → (x : ReadStep) → read_at log r.bytes ≡ x → Turned t₀ w₀ log budget r (state_read w x) (turn_read w r x) t
+      by_reading l (Ok (Some read)) h = by_answer read.step read.next l h (eqb (rejection w read.step) 0) refl
+      by_reading l (Ok None) h = stops_here t₀ u (reads_end log budget r.bytes r.tried l h)
+      by_reading l (Err d) h = stops_here t₀ u (reads_damage log budget r.bytes r.tried d l h)
 
       by_budget : (b : Bool) → leb budget r.tried ≡ b
           → Turned t₀ w₀ log budget r (cond b w (state_read w (read_at log r.bytes)))

@@ -1,5 +1,6 @@
 -- The turns of a replay that keeps a tally: it begins, a step is accepted or rejected, and it is over.
 -- Assumes nothing.
+use Rattle.model.specs.Log.{one_step}
 use Prim.Native.Nat.{ℕ, ◌+◌, ◌-◌, ◌≤◌, ◌<◌, ◌^◌}
 use native.Mathlib.Nat.{sub-zero}
 use native.Mathlib.Omega.{arith}
@@ -10,7 +11,6 @@ use lib.Dec.{eqb}
 use lib.ListN.{length, drop}
 use borrow.Author.Tests.{eq-eqb, ne_eqb, eqb-true}
 use Rattle.types.specs.declared.step.Step.{Step}
-use Rattle.types.specs.declared.Reading.TheVariants.{Step as Read}
 use Rattle.types.specs.declared.Stop.{Stop}
 use Rattle.types.specs.declared.Stop.TheVariants.{Spent, Rejected as NotTried}
 use Rattle.types.specs.declared.Report.{Report}
@@ -131,7 +131,7 @@ module _ {w₀ log : List ℕ} {budget : ℕ} {w : List ℕ} {r : Report} {t : T
       }
 
   -- a step is read and tried: a is its answer, and v the state that it leaves
-  module _ (s : Step) (next : ℕ) (h : r.tried < budget) (e : read_at log r.bytes ≡ Read s next)
+  module _ (s : Step) (next : ℕ) (h : r.tried < budget) (e : read_at log r.bytes ≡ one_step s next)
       {a : ℕ} (p : a ≡ rejection w s) {v : List ℕ} (q : v ≡ after w s) where
     tally_goes : tally_from nothing_counted w₀ (read_log budget log).steps
         ≡ tally_from (cond (eqb (rejection w s) 0) t (counted_in t (count_of w s))) v (read_log (budget - (r.tried + 1)) (drop next log)).steps

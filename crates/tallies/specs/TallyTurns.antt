@@ -1,8 +1,8 @@
 -- The turns of a replay that keeps a tally: what `begin` and `turn` answer and leave, and what the functions inside `turn` require and answer.
+use Rattle.std.specs.Prelude.{Ok, Err, Some, None}
+use Rattle.model.specs.Log.{ReadStep}
 use Rattle.std.specs.Prelude.{ℕ, ◌+◌, ◌^◌, ◌<◌, ◌≡◌, true, false, cond, List, leb, eqb, length}
 use Rattle.types.specs.declared.step.Step.{Step}
-use Rattle.types.specs.declared.Reading.{Reading}
-use Rattle.types.specs.declared.Reading.TheVariants.{Step as Read, End, Rejected as NotRead}
 use Rattle.types.specs.declared.Report.{Report}
 use Rattle.types.specs.declared.Stop.TheVariants.{Ended, Spent, Damaged, Rejected as NotTried}
 use Rattle.model.specs.Steps.{rejection, after}
@@ -31,17 +31,17 @@ begun w =
     cond (eqb (replay_rejection w) 0) (goes_on (report_of Spent 0 0 0) no_count) (ended (report_of (NotTried (replay_rejection w)) 0 0 0))
 
 -- a turn with what is read at its position: a step is tried, and counts where it is rejected
-unfoldable pub turn_read : List ℕ → Report → Reading → Progress
-turn_read w r (Read s next) =
-    cond (eqb (rejection w s) 0) (goes_on (report_of Spent (r.tried + 1) r.rejected next) no_count)
-    (goes_on (report_of Spent (r.tried + 1) (r.rejected + 1) next) (count_of w s))
-turn_read w r End = ended (report_of Ended r.tried r.rejected r.bytes)
-turn_read w r (NotRead d) = ended (report_of (Damaged d) r.tried r.rejected r.bytes)
+unfoldable pub turn_read : List ℕ → Report → ReadStep → Progress
+turn_read w r (Ok (Some read)) =
+    cond (eqb (rejection w read.step) 0) (goes_on (report_of Spent (r.tried + 1) r.rejected read.next) no_count)
+    (goes_on (report_of Spent (r.tried + 1) (r.rejected + 1) read.next) (count_of w read.step))
+turn_read w r (Ok None) = ended (report_of Ended r.tried r.rejected r.bytes)
+turn_read w r (Err d) = ended (report_of (Damaged d) r.tried r.rejected r.bytes)
 
-unfoldable pub state_read : List ℕ → Reading → List ℕ
-state_read w (Read s next) = after w s
-state_read w End = w
-state_read w (NotRead d) = w
+unfoldable pub state_read : List ℕ → ReadStep → List ℕ
+state_read w (Ok (Some read)) = after w read.step
+state_read w (Ok None) = w
+state_read w (Err d) = w
 
 -- a turn after the report r, and the state after it; where the budget is used up, nothing is read
 unfoldable pub turn_of : List ℕ → List ℕ → ℕ → Report → Progress

@@ -1,5 +1,8 @@
 -- A text that stands at the start of a space, handed to an output.
 -- Assumes nothing.
+use Rattle.std.specs.Prelude.{Ok, Err}
+use Rattle.types.specs.declared.rejection.Rejection.TheVariants.{OutputLength}
+use Rattle.types.specs.Rejections.{Written, answer_count, answer_number}
 use Prim.Native.Nat.{ℕ, ◌+◌, ◌≤◌, ◌<◌}
 use native.Mathlib.Nat.{zero-add}
 use native.Mathlib.Omega.{arith}
@@ -9,10 +12,8 @@ use native.Mathlib.Decide.{dec_le}
 use lib.ListN.{length, take, drop, replicate, length-replicate, length-append, length-drop}
 use lib.Seq.{sets, sets-eq, take_at, length-take-le, length-sets}
 use borrow.Author.Tests.{le-leb, lt-leb}
-use Rattle.types.specs.declared.Writing.{Writing}
-use Rattle.types.specs.declared.Writing.TheVariants.{Bytes, Rejected}
 use Rattle.model.specs.Checks.{first_of}
-use Rattle.model.specs.Results.{writing_number, writing_count, count_beside}
+use Rattle.model.specs.Results.{count_beside}
 use Rattle.model.specs.Transcript.{transcript}
 use Rattle.model.proofs.Results.{counted}
 use Rattle.transcript.specs.LargestText.{text_most}
@@ -51,15 +52,15 @@ module _ (out text : List ℕ) where
   no_room l = rw (lt-leb (length text) (length out) l)
 
   -- in numbers and as a value
-  pub told : {r : Writing} {v : List ℕ} → (r ≡ text_writing out text) × (v ≡ after_text out text)
-      → (writing_number r ≡ text_rejection out text)
-      × ((writing_count r ≡ text_count out text) × ((r ≡ text_writing out text) × (v ≡ after_text out text)))
+  pub told : {r : Written} {v : List ℕ} → (r ≡ text_writing out text) × (v ≡ after_text out text)
+      → (answer_number r ≡ text_rejection out text)
+      × ((answer_count r ≡ text_count out text) × ((r ≡ text_writing out text) × (v ≡ after_text out text)))
   unfolding text_writing text_count
   told e = let c = counted (text_rejection out text) text e.0 in (c.0, (c.1, e))
 
   -- a text that was written to the start of an output with room for it
   pub written : length text ≤ length out → {n : ℕ} {v : List ℕ} → (n ≡ length text) × (v ≡ sets out 0 text)
-      → (Bytes n ≡ text_writing out text) × (v ≡ after_text out text)
+      → (Ok n ≡ text_writing out text) × (v ≡ after_text out text)
   unfolding text_writing after_text
   written l e =
       let f = fits l in
@@ -88,7 +89,7 @@ module _ (out space : List ℕ) (n : ℕ) (h : n ≤ length space) where
   pub long : length (take n space) ≡ n
   long = length-take-le n space h
 
-  pub too_short_lem : length out < n → (Rejected 8 ≡ text_writing out (take n space)) × (out ≡ after_text out (take n space))
+  pub too_short_lem : length out < n → (Err OutputLength ≡ text_writing out (take n space)) × (out ≡ after_text out (take n space))
   unfolding text_writing after_text
   too_short_lem l =
       let e = no_room out (take n space) (omega (arith, l, long)) in
@@ -98,5 +99,5 @@ module _ (out space : List ℕ) (n : ℕ) (h : n ≤ length space) where
     pub room : 0 + length (take n space) ≤ length out
     room = omega (arith, long)
 
-    pub delivered : {v : List ℕ} → v ≡ sets out 0 (take n space) → (Bytes n ≡ text_writing out (take n space)) × (v ≡ after_text out (take n space))
+    pub delivered : {v : List ℕ} → v ≡ sets out 0 (take n space) → (Ok n ≡ text_writing out (take n space)) × (v ≡ after_text out (take n space))
     delivered f = written out (take n space) (omega (arith, l, long)) (sym long, f)

@@ -1,14 +1,14 @@
 -- A log reads to at most one step for each four bytes, whatever the budget, and to no more bytes than it has. Its steps have kinds from 1 to 7,
 -- and it stops as ended, as spent, or as damaged with a rejection from 3 to 6. The log may hold any numbers.
 -- Assumes nothing.
+use Rattle.std.specs.Prelude.{Ok, Err, Some, None}
+use Rattle.model.specs.Log.{ReadStep, one_step}
 use Prim.Native.Nat.{ℕ, zero, suc, ◌*◌, ◌≤◌}
 use native.Mathlib.Omega.{arith}
 use mathlib.Core.Path.{◌≡◌, refl}
 use mathlib.Core.Bool.{Bool, true, false, cond}
 use mathlib.Core.List.{List, [], ◌∷◌}
 use lib.ListN.{length, drop, length-drop}
-use Rattle.types.specs.declared.Reading.{Reading}
-use Rattle.types.specs.declared.Reading.TheVariants.{Step as Read, End, Rejected}
 use Rattle.types.specs.declared.Stop.{Stop}
 use Rattle.types.specs.declared.Stop.TheVariants.{Ended, Spent, Damaged, Rejected as NotRun}
 use Rattle.types.specs.declared.step.Step.{Step}
@@ -40,7 +40,7 @@ unfolding stopped
 stopped_sized m x g = record { steps = omega arith; bytes = omega arith; kinds = tt; stop = g }
 
 step_before :
-    (bs : List ℕ) (s : Step) (n : ℕ) → read_step bs ≡ Read s n → (l : Log) → SizedLog (length (drop n bs)) l
+    (bs : List ℕ) (s : Step) (n : ℕ) → read_step bs ≡ one_step s n → (l : Log) → SizedLog (length (drop n bs)) l
     → SizedLog (length bs) (with_step s n l)
 unfolding with_step
 step_before bs s n e l g =
@@ -62,11 +62,11 @@ log_sized zero bs = stopped_sized (length bs) (cond (is_empty bs) Ended Spent) (
 log_sized (suc budget) bs = go (read_step bs) refl (λ n. log_sized budget (drop n bs))
   where
     go :
-        (r : Reading) → read_step bs ≡ r → ((n : ℕ) → SizedLog (length (drop n bs)) (read_log budget (drop n bs)))
+        (r : ReadStep) → read_step bs ≡ r → ((n : ℕ) → SizedLog (length (drop n bs)) (read_log budget (drop n bs)))
         → SizedLog (length bs) (log_after r (λ n. read_log budget (drop n bs)))
-    go (Read s n) e more = step_before bs s n e (read_log budget (drop n bs)) (more n)
-    go End e more = stopped_sized (length bs) Ended tt
-    go (Rejected r) e more = stopped_sized (length bs) (Damaged r) (step_damage bs e)
+    go (Ok (Some read)) e more = step_before bs read.step read.next e (read_log budget (drop read.next bs)) (more read.next)
+    go (Ok None) e more = stopped_sized (length bs) Ended tt
+    go (Err r) e more = stopped_sized (length bs) (Damaged r) (step_damage bs e)
 
 pub log_steps : (budget : ℕ) (bs : List ℕ) → 4 * length (read_log budget bs).steps ≤ length bs
 log_steps budget bs = let g = log_sized budget bs in omega arith

@@ -1,5 +1,6 @@
 -- The loop that tries the steps of a log and writes a line for each: its invariant, and its turns.
 -- Assumes nothing.
+use Rattle.model.specs.Log.{one_step}
 use Prim.Native.Nat.{ℕ, suc, ◌+◌, ◌-◌, ◌≤◌, ◌<◌}
 use native.Mathlib.Omega.{arith}
 use mathlib.Core.Path.{◌≡◌, ◌∙◌}
@@ -7,7 +8,6 @@ use mathlib.Core.List.{List, [], ◌++◌}
 use lib.ListN.{length, drop}
 use lib.Seq.{sets}
 use Rattle.types.specs.declared.step.Step.{Step}
-use Rattle.types.specs.declared.Reading.TheVariants.{Step as Read}
 use Rattle.types.specs.declared.Stop.{Stop}
 use Rattle.model.specs.Steps.{rejection, after}
 use Rattle.model.specs.Log.{read_at, read_log, stopped}
@@ -34,7 +34,7 @@ print_start w log out r =
     record { running = start w log program_budget r.formed; lines = progress_first out 0 (run_lines w log) (omega (arith, r.room)) }
 
 module _ {w₀ log out₀ w out : List ℕ} {at tried rejected end : ℕ} (x : Printing w₀ log out₀ w out at tried rejected end) where
-  module _ (s : Step) (next : ℕ) (h : tried < program_budget) (e : read_at log at ≡ Read s next) where
+  module _ (s : Step) (next : ℕ) (h : tried < program_budget) (e : read_at log at ≡ one_step s next) where
     -- the line of the step is the next one
     one_line : lines_left w log at tried ≡ step_line (tried + 1) s.kind (rejection w s) ++ lines_left (after w s) log next (tried + 1)
     unfolding step_line step_lines

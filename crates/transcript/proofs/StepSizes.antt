@@ -1,5 +1,9 @@
 -- A step that is read has at least four bytes and a kind from 1 to 7, and a rejection of a log is 3 to 6. The log may hold any numbers.
 -- Assumes nothing.
+use Rattle.std.specs.Prelude.{Ok, Err, Some, None}
+use Rattle.types.specs.declared.rejection.Rejection.TheVariants.{KeptKind, UnknownKind, NumberForm}
+use Rattle.model.specs.Numbers.{ReadNumber, valued}
+use Rattle.model.specs.Log.{ReadStep, one_step}
 use Prim.Native.Nat.{ℕ, zero, suc, ◌%◌, ◌≤◌}
 use native.Mathlib.Omega.{arith}
 use mathlib.Core.Logic.{⊎_elim}
@@ -8,10 +12,6 @@ use mathlib.Core.Bool.{Bool, true, false, cond, not, ◌&&◌, true≢false}
 use mathlib.Core.List.{List, [], ◌∷◌}
 use lib.Dec.{ltb, eqb}
 use lib.ListN.{drop}
-use Rattle.types.specs.declared.Number.{Number}
-use Rattle.types.specs.declared.Number.TheVariants.{Value, Rejected as NotNumber}
-use Rattle.types.specs.declared.Reading.{Reading}
-use Rattle.types.specs.declared.Reading.TheVariants.{Step as Read, End, Rejected}
 use Rattle.types.specs.declared.step.Step.{Step}
 use Rattle.types.specs.Kinds.{kind_of, is_kept, is_unknown, used_numbers}
 use Rattle.model.specs.Numbers.{Numbers, values, rejected, with_lower, read_groups, read_number, with_first, after_first, read_numbers}
@@ -25,14 +25,14 @@ pub record Damage (r : ℕ) : Type 0 where
 
 -- ---- a number has at least one byte
 
-abbrev SizedNumber : Number → Type 0
-SizedNumber (Value v n) = 1 ≤ n
-SizedNumber (NotNumber r) = Damage r
+abbrev SizedNumber : ReadNumber → Type 0
+SizedNumber (Ok read) = 1 ≤ read.bytes
+SizedNumber (Err r) = Damage r
 
-lower_sized : (x : ℕ) (r : Number) → SizedNumber r → SizedNumber (with_lower x r)
+lower_sized : (x : ℕ) (r : ReadNumber) → SizedNumber r → SizedNumber (with_lower x r)
 unfolding with_lower
-lower_sized x (Value v n) g = omega arith
-lower_sized x (NotNumber r) g = g
+lower_sized x (Ok read) g = omega arith
+lower_sized x (Err r) g = g
 
 groups_sized : (k : ℕ) (is_first : Bool) (bs : List ℕ) → SizedNumber (read_groups k is_first bs)
 unfolding read_groups
@@ -42,7 +42,7 @@ groups_sized (suc k) is_first (b ∷ bs) =
     go (ltb b 128) (eqb b 0 && not is_first) (with_lower (b % 128) (read_groups k false bs))
     (lower_sized (b % 128) (read_groups k false bs) (groups_sized k false bs))
   where
-    go : (t u : Bool) (r : Number) → SizedNumber r → SizedNumber (cond t (cond u (NotNumber 6) (Value b 1)) r)
+    go : (t u : Bool) (r : ReadNumber) → SizedNumber r → SizedNumber (cond t (cond u (Err NumberForm) (valued b 1)) r)
     go true true r g = record { least = omega arith; most = omega arith }
     go true false r g = omega arith
     go false u r g = g
@@ -68,10 +68,10 @@ numbers_sized zero bs = omega arith
 numbers_sized (suc count) bs = go (read_number bs) (number_sized bs) (λ n. numbers_sized count (drop n bs))
   where
     go :
-        (r : Number) → SizedNumber r → ((n : ℕ) → SizedNumbers count (read_numbers count (drop n bs)))
+        (r : ReadNumber) → SizedNumber r → ((n : ℕ) → SizedNumbers count (read_numbers count (drop n bs)))
         → SizedNumbers (suc count) (after_first r (λ n. read_numbers count (drop n bs)))
-    go (Value v n) h more = first_sized count v n (read_numbers count (drop n bs)) h (more n)
-    go (NotNumber r) h more = h
+    go (Ok read) h more = first_sized count read.value read.bytes (read_numbers count (drop read.bytes bs)) h (more read.bytes)
+    go (Err r) h more = h
 
 -- ---- a step
 
@@ -91,10 +91,10 @@ pub record SizedStep (s : Step) (n : ℕ) : Type 0 where
   pub bytes : 4 ≤ n
   pub kind : KnownNumber s.kind
 
-abbrev Sized : Reading → Type 0
-Sized (Read s n) = SizedStep s n
-Sized End = Unit {0}
-Sized (Rejected r) = Damage r
+abbrev Sized : ReadStep → Type 0
+Sized (Ok (Some read)) = SizedStep read.step read.next
+Sized (Ok None) = Unit {0}
+Sized (Err r) = Damage r
 
 module _ (k : ℕ) (e : is_kept (kind_of k) ≡ false) (f : is_unknown (kind_of k) ≡ false) where
   numbers_after : (n : ℕ) → 1 ≤ n → (r : Numbers) → SizedNumbers (used_numbers (kind_of k)) r → Sized (after_numbers k n r)
@@ -104,28 +104,28 @@ module _ (k : ℕ) (e : is_kept (kind_of k) ≡ false) (f : is_unknown (kind_of 
       record { bytes = omega arith; kind = record { least = kind_least k f; most = omega (arith, kind_below k e f) } }
   numbers_after n h (rejected r) g = g
 
-kind_after_lem : (bs : List ℕ) (r : Number) → SizedNumber r → Sized (after_kind bs r)
+kind_after_lem : (bs : List ℕ) (r : ReadNumber) → SizedNumber r → Sized (after_kind bs r)
 unfolding after_kind
-kind_after_lem bs (Value k n) h = go (is_kept (kind_of k)) refl (is_unknown (kind_of k)) refl
+kind_after_lem bs (Ok read) h = go (is_kept (kind_of read.value)) refl (is_unknown (kind_of read.value)) refl
   where
-    others : Reading
+    others : ReadStep
     others = after_numbers k n (read_numbers (used_numbers (kind_of k)) (drop n bs))
 
     go :
         (t : Bool) → is_kept (kind_of k) ≡ t → (u : Bool) → is_unknown (kind_of k) ≡ u
-        → Sized (cond t (Rejected 3) (cond u (Rejected 4) others))
+        → Sized (cond t (Err KeptKind) (cond u (Err UnknownKind) others))
     go true e u f = record { least = omega arith; most = omega arith }
     go false e true f = record { least = omega arith; most = omega arith }
     go false e false f = numbers_after k e f n h _ (numbers_sized (used_numbers (kind_of k)) (drop n bs))
-kind_after_lem bs (NotNumber r) h = h
+kind_after_lem bs (Err r) h = h
 
 reading_sized : (bs : List ℕ) → Sized (read_step bs)
 unfolding read_step
 reading_sized [] = tt
 reading_sized (b ∷ bs) = kind_after_lem (b ∷ bs) (read_number (b ∷ bs)) (number_sized (b ∷ bs))
 
-pub step_sized : (bs : List ℕ) {s : Step} {n : ℕ} → read_step bs ≡ Read s n → SizedStep s n
+pub step_sized : (bs : List ℕ) {s : Step} {n : ℕ} → read_step bs ≡ one_step s n → SizedStep s n
 step_sized bs e = rw e at (reading_sized bs)
 
-pub step_damage : (bs : List ℕ) {r : ℕ} → read_step bs ≡ Rejected r → Damage r
+pub step_damage : (bs : List ℕ) {r : ℕ} → read_step bs ≡ Err r → Damage r
 step_damage bs e = rw e at (reading_sized bs)

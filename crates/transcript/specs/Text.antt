@@ -1,8 +1,8 @@
 -- The text in parts, and what writing it answers and leaves.
+use Rattle.std.specs.Prelude.{Ok, Err}
+use Rattle.types.specs.Rejections.{Written}
 use Rattle.std.specs.Prelude.{ℕ, ◌≤◌, cond, List, [], ◌∷◌, ◌++◌, leb, eqb, length, drop}
 use Rattle.types.specs.declared.Stop.{Stop}
-use Rattle.types.specs.declared.Writing.{Writing}
-use Rattle.types.specs.declared.Writing.TheVariants.{Bytes, Rejected}
 use Rattle.model.specs.Checks.{first_of, ◌or_else◌}
 use Rattle.model.specs.Log.{read_log}
 use Rattle.model.specs.Results.{count_beside}
@@ -22,8 +22,8 @@ unfoldable pub text_count : List ℕ → List ℕ → ℕ
 text_count out text = count_beside (text_rejection out text) text
 
 -- both as one answer
-unfoldable pub text_writing : List ℕ → List ℕ → Writing
-text_writing out text = cond (eqb (text_rejection out text) 0) (Bytes (length text)) (Rejected (text_rejection out text))
+unfoldable pub text_writing : List ℕ → List ℕ → Written
+text_writing out text = cond (eqb (text_rejection out text) 0) (Ok (length text)) (Err (text_rejection out text))
 
 -- "Any lent output keeps what lies past the part written"; a rejection leaves it untouched
 unfoldable pub after_text : List ℕ → List ℕ → List ℕ

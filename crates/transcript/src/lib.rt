@@ -2,9 +2,9 @@
 
 #![tactic(auto)]
 
+ghost use Rattle.types.specs.Rejections.{answer_count, answer_number};
 ghost use Rattle.std.specs.Prelude.{◌≡◌, ◌≤◌, length, take};
 ghost use Rattle.model.specs.Transcript.{transcript};
-ghost use Rattle.model.specs.Results.{writing_number, writing_count};
 ghost use Rattle.transcript.specs.Text.{text_rejection, text_count, text_writing, after_text};
 
 use decimal_text::bytes::write_bytes;
@@ -20,8 +20,8 @@ pub const MOST: usize = 42232;
 // Writes the text of a log: its length, or rejection 8 where the output is too short, which leaves it untouched. An output that is long enough for any
 // text is written at once, another one from a space of its own.
 pub fn transcript(log: &[u8], out: &mut [u8]) -> Writing
-    ensures result_value { writing_number result ≡ text_rejection out.old (transcript log.now) }
-    ensures result_value_2 { writing_count result ≡ text_count out.old (transcript log.now) }
+    ensures result_value { answer_number result ≡ text_rejection out.old (transcript log.now) }
+    ensures result_value_2 { answer_count result ≡ text_count out.old (transcript log.now) }
     ensures value { result ≡ text_writing out.old (transcript log.now) }
     ensures out_after { out.new ≡ after_text out.old (transcript log.now) }
 {

@@ -1,8 +1,14 @@
 -- A rejection is the one of its number, and no rejection has number 0.
-use Rattle.std.proofs.Common.{◌≡◌, refl, false, eqb}
+use Prim.Native.Nat.{ℕ, zero, suc}
+use mathlib.Core.Path.{◌≡◌, refl, sym}
+use mathlib.Core.Bool.{Bool, true, false, cond, true≢false}
+use lib.Dec.{ltb, eqb}
+use native.Mathlib.Omega.{arith}
+use borrow.Author.Tests.{eqb-true, ltb-true}
+use Rattle.std.specs.Prelude.{Result, Ok, Err}
 use Rattle.types.specs.declared.rejection.Rejection.{Rejection}
 use Rattle.types.specs.declared.rejection.Rejection.TheVariants.{StateLength, Plan, KeptKind, UnknownKind, LogEnds, NumberForm, OutOfRange, OutputLength, NotWellFormed, NotInstalled, NotMember, WrongMode, NoSource, IsOrderer, EntryHeld, HistoryFull, NotSequencer, NotLonger, NotAlike, NoIssue, WrongIndex, IssuedBefore, RivalIssue, NotWedged}
-use Rattle.types.specs.Rejections.{rejection_number, numbered}
+use Rattle.types.specs.Rejections.{rejection_number, numbered, answer_number, answered}
 
 pub numbered_back : (r : Rejection) → numbered (rejection_number r) ≡ r
 unfolding numbered
@@ -56,3 +62,46 @@ number_not_0 WrongIndex = refl
 number_not_0 IssuedBefore = refl
 number_not_0 RivalIssue = refl
 number_not_0 NotWedged = refl
+
+-- the number of a rejection that a number names, 1 to 24, is that number
+pub named_number : (n : ℕ) → eqb n 0 ≡ false → ltb n 25 ≡ true → rejection_number (numbered n) ≡ n
+unfolding numbered
+named_number zero e h = absurd (true≢false e)
+named_number (suc zero) e h = refl
+named_number (suc (suc zero)) e h = refl
+named_number (suc (suc (suc zero))) e h = refl
+named_number (suc (suc (suc (suc zero)))) e h = refl
+named_number (suc (suc (suc (suc (suc zero))))) e h = refl
+named_number (suc (suc (suc (suc (suc (suc zero)))))) e h = refl
+named_number (suc (suc (suc (suc (suc (suc (suc zero))))))) e h = refl
+named_number (suc (suc (suc (suc (suc (suc (suc (suc zero)))))))) e h = refl
+named_number (suc (suc (suc (suc (suc (suc (suc (suc (suc zero))))))))) e h = refl
+named_number (suc (suc (suc (suc (suc (suc (suc (suc (suc (suc zero)))))))))) e h = refl
+named_number (suc (suc (suc (suc (suc (suc (suc (suc (suc (suc (suc zero))))))))))) e h = refl
+named_number (suc (suc (suc (suc (suc (suc (suc (suc (suc (suc (suc (suc zero)))))))))))) e h = refl
+named_number (suc (suc (suc (suc (suc (suc (suc (suc (suc (suc (suc (suc (suc zero))))))))))))) e h = refl
+named_number (suc (suc (suc (suc (suc (suc (suc (suc (suc (suc (suc (suc (suc (suc zero)))))))))))))) e h = refl
+named_number (suc (suc (suc (suc (suc (suc (suc (suc (suc (suc (suc (suc (suc (suc (suc zero))))))))))))))) e h = refl
+named_number (suc (suc (suc (suc (suc (suc (suc (suc (suc (suc (suc (suc (suc (suc (suc (suc zero)))))))))))))))) e h = refl
+named_number (suc (suc (suc (suc (suc (suc (suc (suc (suc (suc (suc (suc (suc (suc (suc (suc (suc zero))))))))))))))))) e h = refl
+named_number (suc (suc (suc (suc (suc (suc (suc (suc (suc (suc (suc (suc (suc (suc (suc (suc (suc (suc zero)))))))))))))))))) e h = refl
+named_number (suc (suc (suc (suc (suc (suc (suc (suc (suc (suc (suc (suc (suc (suc (suc (suc (suc (suc (suc zero))))))))))))))))))) e h = refl
+named_number (suc (suc (suc (suc (suc (suc (suc (suc (suc (suc (suc (suc (suc (suc (suc (suc (suc (suc (suc (suc zero)))))))))))))))))))) e h = refl
+named_number (suc (suc (suc (suc (suc (suc (suc (suc (suc (suc (suc (suc (suc (suc (suc (suc (suc (suc (suc (suc (suc zero))))))))))))))))))))) e h = refl
+named_number (suc (suc (suc (suc (suc (suc (suc (suc (suc (suc (suc (suc (suc (suc (suc (suc (suc (suc (suc (suc (suc (suc zero)))))))))))))))))))))) e h = refl
+named_number (suc (suc (suc (suc (suc (suc (suc (suc (suc (suc (suc (suc (suc (suc (suc (suc (suc (suc (suc (suc (suc (suc (suc zero))))))))))))))))))))))) e h = refl
+named_number (suc (suc (suc (suc (suc (suc (suc (suc (suc (suc (suc (suc (suc (suc (suc (suc (suc (suc (suc (suc (suc (suc (suc (suc zero)))))))))))))))))))))))) e h = refl
+named_number (suc (suc (suc (suc (suc (suc (suc (suc (suc (suc (suc (suc (suc (suc (suc (suc (suc (suc (suc (suc (suc (suc (suc (suc (suc n))))))))))))))))))))))))) e h = absurd (omega (arith, ltb-true _ 25 h))
+
+pub answered_number : {A : Type 0} (n : ℕ) (x : A) → ltb n 25 ≡ true → answer_number (answered n x) ≡ n
+unfolding answered
+answered_number {A} n x h = go (eqb n 0) refl
+  where
+    go : (t : Bool) → eqb n 0 ≡ t → answer_number (cond {A = Result A Rejection} t (Ok x) (Err (numbered n))) ≡ n
+    go true e = sym (eqb-true n 0 e)
+    go false e = named_number n e h
+
+-- a rejection is the answer of its number
+pub rejected_answer : {A : Type 0} (r : Rejection) (x : A) → Err r ≡ answered (rejection_number r) x
+unfolding answered
+rejected_answer r x = rw (number_not_0 r, numbered_back r)

@@ -68,6 +68,14 @@ abbrev pub answer_number : {A : Type 0} → Result A Rejection → ℕ
 answer_number (Ok x) = 0
 answer_number (Err r) = rejection_number r
 
--- the answer of a number: x, or the rejection
+-- the answer that has a number: x, or the rejection
 unfoldable pub answered : {A : Type 0} → ℕ → A → Result A Rejection
 answered n x = cond (eqb n 0) (Ok x) (Err (numbered n))
+
+-- what writing to an output gives: the count of what was written, or the rejection
+abbrev pub Written : Type 0
+Written = Result ℕ Rejection
+
+unfoldable pub answer_count : Written → ℕ
+answer_count (Ok n) = n
+answer_count (Err r) = 0

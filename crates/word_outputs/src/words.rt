@@ -1,8 +1,8 @@
 // Words at the start of an output.
+ghost use Rattle.types.specs.Rejections.{answer_number};
 ghost use Rattle.std.specs.Prelude.{◌≡◌, [], ◌∷◌, ◌≤◌, length};
 ghost use Rattle.std.proofs.lemmas.List.Edits.{sets};
-ghost use Rattle.model.specs.Results.{stop_number, writing_number};
-ghost use Rattle.stable_entries.specs.Listing.{listing_number};
+ghost use Rattle.model.specs.Results.{stop_number};
 ghost use Rattle.word_outputs.specs.WordOutputs.{reported_words, writing_word, listing_word};
 
 use stable_entries::Listing;
@@ -59,7 +59,7 @@ pub fn put_step(out: &mut [u64], kind: u64, a: u64, b: u64, c: u64, d: u64, next
 // The count of the bytes that were written, and 0; or the rejection, and no word.
 pub fn put_writing(out: &mut [u64], writing: Writing) -> u64
     requires { 1 ≤ length out.old }
-    ensures value { result ≡ writing_number writing }
+    ensures value { result ≡ answer_number writing }
     ensures out_after { out.new ≡ sets out.old 0 (writing_word writing) }
 {
     match writing {
@@ -74,7 +74,7 @@ pub fn put_writing(out: &mut [u64], writing: Writing) -> u64
 // The same of a list that was copied.
 pub fn put_listing(out: &mut [u64], listing: Listing) -> u64
     requires { 1 ≤ length out.old }
-    ensures value { result ≡ listing_number listing }
+    ensures value { result ≡ answer_number listing }
     ensures out_after { out.new ≡ sets out.old 0 (listing_word listing) }
 {
     match listing {

@@ -1,4 +1,5 @@
 -- `capi::steps::penkwadar_read_step` meets its contract.
+use Rattle.types.specs.Rejections.{answer_number}
 use Prim.Native.Nat.{◌-◌}
 use native.Mathlib.Omega.{arith}
 use mathlib.Core.Path.{◌≡◌, refl, sym, ◌∙◌}
@@ -6,7 +7,7 @@ use mathlib.Core.Bool.{true}
 use lib.ListN.{length, drop, length-drop}
 use lib.Seq.{take_all}
 use Rattle.model.specs.Log.{step_of, read_step, from}
-use Rattle.model.specs.Results.{reading_number, reading_step, reading_next}
+use Rattle.model.specs.Results.{reading_step, reading_next}
 use Rattle.quick_reader.specs.Long.{is_long_add_at}
 use Rattle.quick_reader.specs.Short.{is_short_at}
 use Rattle.quick_reader.proofs.LongAdds.{long_read}
@@ -22,7 +23,7 @@ returns-then-step-lt6 c =
     record { value = t.0; step_after = t.1 }
 
 pub returns-then-log-at : goal.returns-then-log-at
-unfolding step_of reading_number reading_step reading_next step_words
+unfolding step_of reading_step reading_next step_words
 returns-then-log-at c =
     let t = read _ _ _ c.if-step-lt6.false (step_none _ _ c.if-log-at.true) refl c.put_step.ensures in
     record { value = t.0; step_after = t.1 }
@@ -57,7 +58,7 @@ overflow_add-at c =
     omega (arith, step_inside c.args.log.now c.args.at (rest) c.in-Step.is)
 
 pub returns-in-Step : goal.returns-in-Step
-unfolding from reading_number reading_step reading_next step_words
+unfolding from reading_step reading_next step_words
 returns-in-Step c =
     let rest : let a = c.args in c.first_step.result ≡ read_step (drop a.at a.log.now) = let a = c.args in
     let whole = take_all (length a.log.now - a.at) (drop a.at a.log.now) (omega (arith, length-drop a.at a.log.now)) in
@@ -67,7 +68,7 @@ returns-in-Step c =
     record { value = t.0; step_after = t.1 }
 
 pub returns-in-End : goal.returns-in-End
-unfolding from step_of reading_number reading_step reading_next step_words
+unfolding from step_of reading_step reading_next step_words
 returns-in-End c =
     let rest : let a = c.args in c.first_step.result ≡ read_step (drop a.at a.log.now) = let a = c.args in
     let whole = take_all (length a.log.now - a.at) (drop a.at a.log.now) (omega (arith, length-drop a.at a.log.now)) in

@@ -1,10 +1,10 @@
 -- `tallies::turns::turn` meets its contract.
+use Rattle.model.specs.Log.{one_step}
 use Prim.Native.Nat.{◌+◌, ◌^◌, ◌<◌}
 use native.Mathlib.Omega.{arith}
 use mathlib.Core.Path.{◌≡◌, sym, ◌∙◌}
 use mathlib.Core.Bool.{true}
 use lib.ListN.{length}
-use Rattle.types.specs.declared.Reading.TheVariants.{Step as Read}
 use Rattle.model.specs.Log.{read_at}
 use Rattle.quick_reader.specs.Short.{is_short_at}
 use Rattle.quick_reader.specs.Long.{is_long_add_at}
@@ -52,7 +52,7 @@ pub tried_one-requires : goal.tried_one-requires
 tried_one-requires c =
     let small : c.args.budget < 2 ^ 64 = search rules in
     let short : let a = c.args in is_short_at a.log.now a.before.bytes ≡ true = sym c.is_short.ensures ∙ c.if-is_short.true in
-    let short_is : let a = c.args in read_at a.log.now a.before.bytes ≡ Read c.step-then-is_short.result (a.before.bytes + c.byte_count.result) = let a = c.args in
+    let short_is : let a = c.args in read_at a.log.now a.before.bytes ≡ one_step c.step-then-is_short.result (a.before.bytes + c.byte_count.result) = let a = c.args in
     read_as a.log.now a.before.bytes (short_read _ _ (short)) c.step-then-is_short.ensures c.byte_count.ensures in
     let short_same : c.step.result ≡ c.step-then-is_short.result = c.step.ensures ∙ sym c.step-then-is_short.ensures in
     let f = tried_as _ (short_same) (c.step_inside-answer.ensures.value, c.step_inside-answer.ensures.state_after) in
@@ -61,7 +61,7 @@ tried_one-requires c =
 pub returns-then-is_short : goal.returns-then-is_short
 returns-then-is_short c =
     let short : let a = c.args in is_short_at a.log.now a.before.bytes ≡ true = sym c.is_short.ensures ∙ c.if-is_short.true in
-    let short_is : let a = c.args in read_at a.log.now a.before.bytes ≡ Read c.step-then-is_short.result (a.before.bytes + c.byte_count.result) = let a = c.args in
+    let short_is : let a = c.args in read_at a.log.now a.before.bytes ≡ one_step c.step-then-is_short.result (a.before.bytes + c.byte_count.result) = let a = c.args in
     read_as a.log.now a.before.bytes (short_read _ _ (short)) c.step-then-is_short.ensures c.byte_count.ensures in
     let short_same : c.step.result ≡ c.step-then-is_short.result = c.step.ensures ∙ sym c.step-then-is_short.ensures in
     let f = tried_as _ (short_same) (c.step_inside-answer.ensures.value, c.step_inside-answer.ensures.state_after) in
@@ -92,7 +92,7 @@ pub tried_one-requires-then-is_long_add : goal.tried_one-requires-then-is_long_a
 tried_one-requires-then-is_long_add c =
     let small : c.args.budget < 2 ^ 64 = search rules in
     let long : let a = c.args in is_long_add_at a.log.now a.before.bytes ≡ true = sym c.is_long_add.ensures ∙ c.if-is_long_add.true in
-    let long_is : let a = c.args in read_at a.log.now a.before.bytes ≡ Read c.step-then-is_long_add-2.result (a.before.bytes + c.byte_count-then-is_long_add.result) = let a = c.args in
+    let long_is : let a = c.args in read_at a.log.now a.before.bytes ≡ one_step c.step-then-is_long_add-2.result (a.before.bytes + c.byte_count-then-is_long_add.result) = let a = c.args in
     read_as a.log.now a.before.bytes (long_read _ _ (long)) c.step-then-is_long_add-2.ensures c.byte_count-then-is_long_add.ensures in
     let long_same : c.step-then-is_long_add.result ≡ c.step-then-is_long_add-2.result = c.step-then-is_long_add.ensures ∙ sym c.step-then-is_long_add-2.ensures in
     let f = tried_as _ (long_same) (c.step_inside-answer-then-is_long_add.ensures.value, c.step_inside-answer-then-is_long_add.ensures.state_after) in
@@ -101,7 +101,7 @@ tried_one-requires-then-is_long_add c =
 pub returns-then-is_long_add : goal.returns-then-is_long_add
 returns-then-is_long_add c =
     let long : let a = c.args in is_long_add_at a.log.now a.before.bytes ≡ true = sym c.is_long_add.ensures ∙ c.if-is_long_add.true in
-    let long_is : let a = c.args in read_at a.log.now a.before.bytes ≡ Read c.step-then-is_long_add-2.result (a.before.bytes + c.byte_count-then-is_long_add.result) = let a = c.args in
+    let long_is : let a = c.args in read_at a.log.now a.before.bytes ≡ one_step c.step-then-is_long_add-2.result (a.before.bytes + c.byte_count-then-is_long_add.result) = let a = c.args in
     read_as a.log.now a.before.bytes (long_read _ _ (long)) c.step-then-is_long_add-2.ensures c.byte_count-then-is_long_add.ensures in
     let long_same : c.step-then-is_long_add.result ≡ c.step-then-is_long_add-2.result = c.step-then-is_long_add.ensures ∙ sym c.step-then-is_long_add-2.ensures in
     let f = tried_as _ (long_same) (c.step_inside-answer-then-is_long_add.ensures.value, c.step_inside-answer-then-is_long_add.ensures.state_after) in
