@@ -3,8 +3,13 @@
 use Prim.Native.Nat.{ℕ, ◌^◌, ◌<◌}
 use native.Mathlib.Omega.{arith}
 use mathlib.Core.Path.{◌≡◌, refl, sym, ap, ◌∙◌}
-use mathlib.Core.Bool.{Bool, true, false}
+use mathlib.Core.Bool.{Bool, true, false, cond}
 use mathlib.Core.List.{List, ◌∷◌}
+use Rattle.std.specs.Prelude.{Result, Ok, Err}
+use Rattle.types.specs.declared.rejection.Rejection.{Rejection}
+use Rattle.types.specs.declared.rejection.Rejection.TheVariants.{NotInstalled, NotMember}
+use Rattle.types.specs.Rejections.{rejection_number}
+use Rattle.types.proofs.OkErr.{ok_is, ok_err, err_is, err_ok}
 use Rattle.model.specs.Checks.{Check, first_of, ◌or_else◌}
 use Rattle.types.specs.Members.{has_member}
 use Rattle.model.specs.Layout.{is_installed, members, place, part, replica_at}
@@ -14,36 +19,8 @@ use Rattle.types.specs.ReplicaPlace.{replica_place}
 use Rattle.model.proofs.Places.{replica_place_lem, place_fits}
 use Rattle.model.proofs.SeatedReplica.{number_small}
 use Rattle.lookup.specs.Ready.{Ready, Placed}
-use Rattle.lookup.specs.declared.Found.{Found}
 use Rattle.lookup.specs.FoundReplicas.{found_of}
 use Rattle.lookup.proofs.ReadyFields.{formed, member_words}
-
--- a replica that was found: its configuration is installed, its host a member, and it is at the place
-pub record IsThere (w : List ℕ) (z j h : ℕ) : Type 0 where
-  pub there : is_installed w z j ≡ true
-  pub member : has_member (members w z j) h ≡ true
-  pub at : (found_of w z j h).place ≡ replica_place (configuration w z j) h
-
-pub is_there : (w : List ℕ) (z j h : ℕ) → (found_of w z j h).answer ≡ 0 → IsThere w z j h
-unfolding found_of
-is_there w z j h = go (is_installed w z j) (has_member (members w z j) h) refl refl
-  where
-    go : (s t : Bool) → is_installed w z j ≡ s → has_member (members w z j) h ≡ t → (found_of w z j h).answer ≡ 0 → IsThere w z j h
-    go true true a b e = record { there = a; member = b; at = rw (a, b) }
-    go true false a b e = absurd (let q : ◌≡◌ {A = ℕ} 11 0 = rw (a, b) at e in omega arith)
-    go false t a b e = absurd (let q : ◌≡◌ {A = ℕ} 10 0 = rw a at e in omega arith)
-
--- the checks of most kinds begin with 10 and 11: where the answer of a look-up is no 0, it is the rejection
-pub found_rejected : (w : List ℕ) (z j h : ℕ) (rest : List Check) → ((found_of w z j h).answer ≡ 0 → ⊥)
-    → (found_of w z j h).answer ≡ first_of (is_installed w z j or_else 10 ∷ has_member (members w z j) h or_else 11 ∷ rest)
-unfolding found_of first_of
-found_rejected w z j h rest = go (is_installed w z j) (has_member (members w z j) h) refl refl
-  where
-    go : (s t : Bool) → is_installed w z j ≡ s → has_member (members w z j) h ≡ t → ((found_of w z j h).answer ≡ 0 → ⊥)
-        → (found_of w z j h).answer ≡ first_of (is_installed w z j or_else 10 ∷ has_member (members w z j) h or_else 11 ∷ rest)
-    go true true a b n = absurd (n (rw (a, b)))
-    go true false a b n = rw (a, b)
-    go false t a b n = rw a
 
 -- a configuration's place is small
 pub small_place : {w : List ℕ} {z j : ℕ} → Ready w z j → (configuration w z j).place < 2 ^ 32
@@ -63,8 +40,6 @@ member_placed {w} {z} {j} r h e =
           (place_fits w r.state.long r.shard r.configuration (number_small (formed r.state) r.shard r.configuration h e));
     }
 
--- ---- the same for the value r that the function `find` returned
-
 -- the replica of host h is at p
 pub record At (w : List ℕ) (z j h p : ℕ) : Type 0 where
   pub there : is_installed w z j ≡ true
@@ -72,27 +47,41 @@ pub record At (w : List ℕ) (z j h p : ℕ) : Type 0 where
   pub place_is : replica_place (configuration w z j) h ≡ p
   pub replica_is : replica_of w (configuration w z j) h ≡ replica_at w p
 
-module _ (w : List ℕ) (z j h : ℕ) (r : Found) (e : r ≡ found_of w z j h) where
-  pub at_found : r.answer ≡ 0 → At w z j h r.place
-  unfolding replica_of
-  at_found q =
-      let f = is_there w z j h (sym (ap (λ (s : Found). s.answer) e) ∙ q) in
-      let p : replica_place (configuration w z j) h ≡ r.place = sym f.at ∙ sym (ap (λ (s : Found). s.place) e) in
-      record { there = f.there; member = f.member; place_is = p; replica_is = ap (replica_at w) p }
+-- what a look-up gives, by its two tests
+module _ (w : List ℕ) (z j h : ℕ) {r : Result ℕ Rejection} (e : r ≡ found_of w z j h) where
+  abbrev by_tests : Bool → Bool → Result ℕ Rejection
+  by_tests s t = cond s (cond t (Ok (replica_place (configuration w z j) h)) (Err NotMember)) (Err NotInstalled)
 
-  pub early : (rest : List Check) → (r.answer ≡ 0 → ⊥)
-      → r.answer ≡ first_of (is_installed w z j or_else 10 ∷ has_member (members w z j) h or_else 11 ∷ rest)
-  early rest n =
-      ap (λ (s : Found). s.answer) e ∙ found_rejected w z j h rest (λ q. n (ap (λ (s : Found). s.answer) e ∙ q))
+  pub at_found : (p : ℕ) → r ≡ Ok p → At w z j h p
+  unfolding found_of replica_of
+  at_found p q = go (is_installed w z j) (has_member (members w z j) h) refl refl (sym q ∙ e)
+    where
+      go : (s t : Bool) → is_installed w z j ≡ s → has_member (members w z j) h ≡ t → Ok p ≡ by_tests s t → At w z j h p
+      go true true a b f =
+          let g : p ≡ replica_place (configuration w z j) h = ok_is f in
+          record { there = a; member = b; place_is = sym g; replica_is = ap (replica_at w) (sym g) }
+      go true false a b f = absurd (ok_err f)
+      go false t a b f = absurd (ok_err f)
+
+  -- the checks of most kinds begin with 10 and 11
+  pub early : (x : Rejection) (rest : List Check) → r ≡ Err x
+      → rejection_number x ≡ first_of (is_installed w z j or_else 10 ∷ has_member (members w z j) h or_else 11 ∷ rest)
+  unfolding found_of first_of
+  early x rest q = go (is_installed w z j) (has_member (members w z j) h) (sym q ∙ e)
+    where
+      go : (s t : Bool) → Err x ≡ by_tests s t → rejection_number x ≡ cond s (cond t (first_of rest) 11) 10
+      go true true f = absurd (err_ok f)
+      go true false f = ap rejection_number (err_is f)
+      go false t f = ap rejection_number (err_is f)
 
   -- in an installed configuration, a host without a replica is no member
-  pub no_member_lem : is_installed w z j ≡ true → (r.answer ≡ 0 → ⊥) → has_member (members w z j) h ≡ false
+  pub no_member_lem : is_installed w z j ≡ true → (x : Rejection) → r ≡ Err x → has_member (members w z j) h ≡ false
   unfolding found_of
-  no_member_lem i n = go (has_member (members w z j) h) refl
+  no_member_lem i x q = go (has_member (members w z j) h) (rw i at (sym q ∙ e))
     where
-      go : (t : Bool) → has_member (members w z j) h ≡ t → t ≡ false
-      go true m = absurd (n (ap (λ (s : Found). s.answer) e ∙ rw (i, m)))
-      go false m = refl
+      go : (t : Bool) → Err x ≡ by_tests true t → t ≡ false
+      go true f = absurd (err_ok f)
+      go false f = refl
 
 -- the words of a replica that was found are just its words
 pub words_at : {w : List ℕ} {z j h p : ℕ} → At w z j h p → Ready w z j → part w p ≡ replica_words (replica_at w p)
@@ -100,12 +89,14 @@ words_at {w} {z} {j} {h} {p} a r = rw (sym a.place_is) (member_words r h a.membe
 
 -- where all checks pass, the answer of a look-up is 0
 pub passed_found : (w : List ℕ) (z j h : ℕ) (rest : List Check)
-    → first_of (is_installed w z j or_else 10 ∷ has_member (members w z j) h or_else 11 ∷ rest) ≡ 0 → (found_of w z j h).answer ≡ 0
+    → first_of (is_installed w z j or_else 10 ∷ has_member (members w z j) h or_else 11 ∷ rest) ≡ 0
+    → found_of w z j h ≡ Ok (replica_place (configuration w z j) h)
 unfolding found_of first_of
 passed_found w z j h rest = go (is_installed w z j) (has_member (members w z j) h) refl refl
   where
     go : (s t : Bool) → is_installed w z j ≡ s → has_member (members w z j) h ≡ t
-        → first_of (is_installed w z j or_else 10 ∷ has_member (members w z j) h or_else 11 ∷ rest) ≡ 0 → (found_of w z j h).answer ≡ 0
+        → first_of (is_installed w z j or_else 10 ∷ has_member (members w z j) h or_else 11 ∷ rest) ≡ 0
+        → found_of w z j h ≡ Ok (replica_place (configuration w z j) h)
     go true true a b e = rw (a, b)
     go true false a b e = absurd (let q : ◌≡◌ {A = ℕ} 11 0 = rw (a, b) at e in omega arith)
     go false t a b e = absurd (let q : ◌≡◌ {A = ℕ} 10 0 = rw a at e in omega arith)

@@ -2,73 +2,62 @@
 
 #![tactic(auto)]
 
-ghost use Rattle.std.specs.Prelude.{◌≡◌, ◌+◌};
+ghost use Rattle.std.specs.Prelude.{◌≡◌, ◌+◌, IfOk};
 ghost use Rattle.model.specs.Layout.{is_installed};
 ghost use Rattle.model.specs.Configuration.{configuration};
 ghost use Rattle.model.specs.Add.{orderer_place};
 ghost use Rattle.lookup.specs.Ready.{Ready, ReadyHost, ReadyInstalled, Placed};
 ghost use Rattle.lookup.specs.FoundReplicas.{found_of};
 
+use crate::name::Named;
 use types::configuration::Configuration;
-use types::layout::{CONFIGURATION_WORDS, HEAD_WORDS, INSTALLED, MEMBERS, ORDERERS, SHARD_WORDS};
+use types::layout::{INSTALLED, MEMBERS, ORDERERS};
+use types::rejection::Rejection;
 
-// Whether configuration j of shard z is installed.
-pub fn is_installed(state: &[u64], z: usize, j: usize) -> bool
-    requires { Ready state.now z j }
-    ensures { result ≡ is_installed state.now z j }
+pub mod name;
+
+// Whether a configuration is installed.
+pub fn is_installed(state: &[u64], at: Named) -> bool
+    requires { Ready state.now at.z at.j }
+    ensures { result ≡ is_installed state.now at.z at.j }
 {
-    (j as u64) < state[z * SHARD_WORDS + INSTALLED]
+    (at.j as u64) < state[at.head() + INSTALLED]
 }
 
-// Configuration j of shard z.
-pub fn configuration_of(state: &[u64], z: usize, j: usize) -> Configuration
-    requires { Ready state.now z j }
-    ensures { result ≡ configuration state.now z j }
+// A configuration by value.
+pub fn configuration_of(state: &[u64], at: Named) -> Configuration
+    requires { Ready state.now at.z at.j }
+    ensures { result ≡ configuration state.now at.z at.j }
 {
-    let at = z * SHARD_WORDS;
+    let head = at.head();
     Configuration {
-        place: at + HEAD_WORDS + j * CONFIGURATION_WORDS,
-        members: state[at + MEMBERS + j],
-        orderer: state[at + ORDERERS + j],
+        place: at.first(),
+        members: state[head + MEMBERS + at.j],
+        orderer: state[head + ORDERERS + at.j],
     }
 }
 
-// Where a host's replica is: its place, or the rejection 10 or 11.
-#[derive(Clone, Copy)]
-pub struct Found {
-    pub answer: u64,
-    pub place: usize,
-}
-
-// The replica of a host in configuration j of shard z.
-pub fn find(state: &[u64], z: usize, j: usize, host: u64) -> Found
-    requires { ReadyHost state.now z j host }
-    ensures { (result ≡ found_of state.now z j host) × Placed state.now result.place }
+// The place of a host's replica in a configuration, or the rejection (10 or 11).
+pub fn find(state: &[u64], at: Named, host: u64) -> Result<usize, Rejection>
+    requires { ReadyHost state.now at.z at.j host }
+    ensures value { result ≡ found_of state.now at.z at.j host }
+    ensures placed { IfOk result (λ place. Placed state.now place) }
 {
-    if !is_installed(state, z, j) {
-        return Found {
-            answer: 10,
-            place: 0,
-        };
+    if !is_installed(state, at) {
+        return Err(Rejection::NotInstalled);
     }
-    let c = configuration_of(state, z, j);
+    let c = configuration_of(state, at);
     if !c.has(host) {
-        return Found {
-            answer: 11,
-            place: 0,
-        };
+        return Err(Rejection::NotMember);
     }
-    Found {
-        answer: 0,
-        place: c.replica(host),
-    }
+    Ok(c.replica(host))
 }
 
 // The place of the orderer's replica in an installed configuration.
-pub fn orderer_place(state: &[u64], z: usize, j: usize) -> usize
-    requires { ReadyInstalled state.now z j }
-    ensures { (result ≡ orderer_place state.now z j) × Placed state.now result }
+pub fn orderer_place(state: &[u64], at: Named) -> usize
+    requires { ReadyInstalled state.now at.z at.j }
+    ensures { (result ≡ orderer_place state.now at.z at.j) × Placed state.now result }
 {
-    let c = configuration_of(state, z, j);
+    let c = configuration_of(state, at);
     c.replica(c.orderer)
 }

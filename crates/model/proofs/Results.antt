@@ -7,12 +7,12 @@ use Rattle.types.proofs.Rejections.{named_number, answered_number}
 use Rattle.model.specs.Checks.{Check, first_of}
 use Prim.Native.Nat.{ℕ, ◌+◌, ◌≤◌}
 use native.Mathlib.Omega.{arith}
-use mathlib.Core.Path.{◌≡◌, refl, sym, ap, ◌∙◌}
+use mathlib.Core.Path.{◌≡◌, refl, ap, ◌∙◌}
 use mathlib.Core.Bool.{Bool, true, false, cond, not, ◌&&◌}
 use mathlib.Core.List.{List, [], ◌∷◌}
 use lib.Dec.{leb, ltb, eqb}
 use lib.ListN.{length, drop}
-use borrow.Author.Tests.{eqb-true, ne_eqb}
+use borrow.Author.Tests.{ne_eqb}
 use Rattle.types.specs.declared.step.Step.{Step}
 use Rattle.types.specs.declared.Report.{Report}
 use Rattle.model.specs.Log.{read_step, read_at, from}

@@ -1,8 +1,7 @@
 -- `lookup::is_installed` meets its contract.
-use mathlib.Core.Path.{refl}
 use Rattle.model.specs.Layout.{is_installed, installed, head_word, head_place}
 use Rattle.lookup.proofs.is_installed.Goals as goal
 
 pub returns : goal.returns
 unfolding is_installed installed head_word head_place
-returns c = refl
+returns c = rw c.head.ensures
