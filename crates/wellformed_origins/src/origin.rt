@@ -22,7 +22,7 @@ fn names_member(members: u64, x: u64) -> bool
         members,
         orderer: 0,
     };
-    1 <= x && x <= 16 && c.has(x - 1)
+    (1..=16).contains(&x) && c.has(x - 1)
 }
 
 // Whether an origin x of configuration j names a source: a member of the configuration before whose replica is not pending.
