@@ -9,7 +9,7 @@ use Rattle.model.specs.Entries.{is_take, is_proper_issue, is_entry}
 use Rattle.model.proofs.Tests.{both}
 use Rattle.model.proofs.Ranges.{same_test}
 use Rattle.model.proofs.Joined.{or_below}
-use Rattle.wellformed_entries.proofs.Folds.{fold_tested}
+use Rattle.wellformed_entries.proofs.Folds.{all_listed, fold_tested}
 
 -- the number before a word, which is the largest of all before 0
 abbrev pub before : ℕ → ℕ
@@ -43,7 +43,8 @@ below_joined x e =
     ∙ and_assoc (below x) (below e) (below (before e)) ∙ ap (λ (b : Bool). below x && b) (take_joined e)
 
 pub joined_takes : (l : List ℕ) → leb (fold join 0 l) 4294967295 ≡ all_of is_take l
-joined_takes l = sym (leb-suc-suc (fold join 0 l) 4294967295) ∙ fold_tested join below is_take below_joined 0 l
+joined_takes l =
+    sym (leb-suc-suc (fold join 0 l) 4294967295) ∙ fold_tested join below is_take below_joined 0 l ∙ all_listed is_take l
 
 -- takes are proper entries
 pub takes_entries : (Z : ℕ) (l : List ℕ) → all_of is_take l ≡ true → all_of (is_entry Z) l ≡ true

@@ -8,12 +8,12 @@ use Rattle.model.proofs.Ranges.{of_below, parted, alike}
 use Rattle.model.proofs.Joined.{or_zero}
 use Rattle.std.specs.List.{fold}
 use Rattle.wellformed_entries.specs.Zeros.{zeros}
-use Rattle.wellformed_entries.proofs.Folds.{fold_tested}
+use Rattle.wellformed_entries.proofs.Folds.{all_listed, fold_tested}
 
 -- ---- words joined
 
 pub joined_zeros : (l : List ℕ) → eqb (fold bit_or 0 l) 0 ≡ zeros l
-joined_zeros l = fold_tested bit_or (λ x. eqb x 0) (λ x. eqb x 0) or_zero 0 l ∙ of_below (λ x. eqb x 0) l
+joined_zeros l = fold_tested bit_or (λ x. eqb x 0) (λ x. eqb x 0) or_zero 0 l ∙ all_listed (λ x. eqb x 0) l ∙ of_below (λ x. eqb x 0) l
 
 -- ---- as many zeros
 
