@@ -50,10 +50,10 @@ module _ (w : List ℕ) (p : ℕ) (out : List ℕ) (h : HasEntries w p) where
   unfolding copying after_copying copying_rejection first_of has_room
   rejects_room r = rejects 8 (entries_at w p) out (λ e. omega arith) (rw (many, lt-leb count (length out) r))
 
-  -- the words that the loop copies
+  -- the words that are copied
   abbrev words : List ℕ
   words = take (p + 8 + count - (p + 8)) (drop (p + 8) w)
 
-  pub copies : count ≤ length out → (Entries count ≡ copying w p out) × (words ++ drop (length words) out ≡ after_copying w p out)
+  pub copies : count ≤ length out → (l : List ℕ) → l ≡ words → (Entries count ≡ copying w p out) × (l ++ drop count out ≡ after_copying w p out)
   unfolding copying after_copying copying_rejection listing_of after_listing_of first_of has_room
-  copies r = (simp (many, le-leb count (length out) r), simp (entries_part w p, many, le-leb count (length out) r))
+  copies r l e = (simp (many, le-leb count (length out) r), simp (e, entries_part w p, many, le-leb count (length out) r))

@@ -1,5 +1,5 @@
 // Entries copied to the start of an output.
-ghost use Rattle.std.specs.Prelude.{◌≡◌, ◌++◌, ◌≤◌, length, drop};
+ghost use Rattle.std.specs.Prelude.{◌≡◌};
 ghost use Rattle.stable_entries.specs.Listing.{listing_number, listing_count};
 ghost use Rattle.stable_entries.specs.StableEntries.{HasEntries, copying_rejection, copied_count, copying, after_copying};
 
@@ -20,18 +20,6 @@ pub fn copy_entries(state: &[u64], place: usize, out: &mut [u64]) -> Listing
     }
     let from = place + ENTRIES;
     let end = from + count;
-    copy(out, &state[from..end]);
+    out[..count].copy_from_slice(&state[from..end]);
     Listing::Entries(count)
-}
-
-// Copies entries to the start of an output that has room for them.
-pub fn copy(out: &mut [u64], entries: &[u64])
-    requires { length entries.now ≤ length out.old }
-    ensures { out.new ≡ entries.now ++ drop (length entries.now) out.old }
-{
-    let mut i = 0;
-    while i < entries.len() {
-        out[i] = entries[i];
-        i += 1;
-    }
 }
