@@ -1,12 +1,11 @@
 -- Entries copied to an output: what is answered and left, by the test of the output's room.
 use Prim.Native.Nat.{ℕ, ◌+◌, ◌-◌, ◌≤◌, ◌<◌}
-use native.Mathlib.Omega.{arith}
-use mathlib.Core.Path.{◌≡◌, refl, sym, ap, ◌∙◌}
-use mathlib.Core.Bool.{Bool, true, false}
+use mathlib.Core.Path.{◌≡◌, refl}
+use mathlib.Core.Bool.{true}
 use mathlib.Core.List.{List, [], ◌∷◌, ◌++◌}
 use lib.Dec.{ltb}
 use lib.ListN.{length, get_or, take, drop}
-use borrow.Author.Tests.{le-leb, lt-leb, ne_eqb, eqb-true}
+use borrow.Author.Tests.{le-leb, lt-leb}
 use Rattle.model.specs.Checks.{first_of}
 use Rattle.model.specs.Results.{count_beside}
 use Rattle.std.specs.Prelude.{Ok, Err}
@@ -34,7 +33,7 @@ told k l out h e f = let c = counted k l h e in (c.0, (c.1, (e, f)))
 pub copied : {r : Written} {v : List ℕ} (w : List ℕ) (p : ℕ) (out : List ℕ) → r ≡ copying w p out → v ≡ after_copying w p out
     → (answer_number r ≡ copying_rejection w p out)
     × ((answer_count r ≡ copied_count w p out) × ((r ≡ copying w p out) × (v ≡ after_copying w p out)))
-unfolding copying after_copying copied_count copying_rejection
+unfolding copying after_copying copied_count copying_rejection has_room
 copied w p out e f = told (copying_rejection w p out) (entries_at w p) out (first_below (has_room (entries_at w p) out ∷ []) refl) e f
 
 module _ (w : List ℕ) (p : ℕ) (out : List ℕ) (h : HasEntries w p) where

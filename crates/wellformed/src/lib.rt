@@ -3,11 +3,11 @@
 #![tactic(auto)]
 
 ghost use Rattle.std.specs.Prelude.{◌≡◌};
-ghost use Rattle.model.specs.Layout.{shards_of};
 ghost use Rattle.model.specs.WellFormed.{well_formed};
-ghost use Rattle.model.specs.Replay.{replay_rejection};
+ghost use Rattle.wellformed.specs.Checked.{shard_count_of, checked};
 
 use types::layout::SHARD_WORDS;
+use types::rejection::Rejection;
 
 pub mod sequencer;
 pub mod shard;
@@ -17,40 +17,35 @@ const FEWEST_SHARDS: usize = 2;
 
 const MOST_SHARDS: usize = 8;
 
-// The number of shards of a state of `len` words, 0 where no state has that length. All lengths are compared, without a division and without an early exit:
-// `find` or a `match` takes three times as long where lengths change from call to call.
-pub fn shard_count(len: usize) -> usize
-    ensures { result ≡ shards_of len }
+// The number of shards of a state of `len` words, or rejection 1. All lengths are compared, without a division and without an early exit: `find` or a
+// `match` takes three times as long where lengths change from call to call.
+pub fn shard_count(len: usize) -> Result<usize, Rejection>
+    ensures { result ≡ shard_count_of len }
 {
-    let mut count = 0;
+    let mut count = None;
     for shards in FEWEST_SHARDS..=MOST_SHARDS {
         if len == shards * SHARD_WORDS {
-            count = shards;
+            count = Some(shards);
         }
     }
-    count
+    count.ok_or(Rejection::StateLength)
 }
 
-// Whether a state is well-formed.
+// Whether a state is well-formed. Of a length that no state has this says nothing.
 pub fn well_formed(state: &[u64]) -> bool
     ensures { result ≡ well_formed state.now }
 {
-    let shards = shard_count(state.len());
-    if !shard::all_shards(state, shards) {
-        return false;
-    }
-    sequencer::all_differ(state, SHARD_WORDS, shards)
+    let shards = shard_count(state.len()).unwrap_or(0);
+    shard::all_shards(state, shards) && sequencer::all_differ(state, SHARD_WORDS, shards)
 }
 
-// The rejection of a state: 1 for its length, 9 where it is not well-formed, else 0.
-pub fn state_rejection(state: &[u64]) -> u64
-    ensures { result ≡ replay_rejection state.now }
+// The number of shards of a well-formed state, or the rejection: 1 for its length, 9 where it is not well-formed.
+pub fn check(state: &[u64]) -> Result<usize, Rejection>
+    ensures { result ≡ checked state.now }
 {
-    if shard_count(state.len()) == 0 {
-        return 1;
-    }
+    let shards = shard_count(state.len())?;
     if !well_formed(state) {
-        return 9;
+        return Err(Rejection::NotWellFormed);
     }
-    0
+    Ok(shards)
 }

@@ -1,8 +1,8 @@
--- `wellformed::shard_count` meets its contract. The loop's invariant: the count is right where the length is that of fewer shards, and else 0.
-use Prim.Native.Nat.{◌≤◌, ◌<◌}
+-- `wellformed::shard_count` meets its contract. The loop's invariant: the count is what the lengths compared so far tell.
 use mathlib.Core.Path.{◌≡◌}
 use Rattle.model.specs.Layout.{shards_of}
+use Rattle.wellformed.proofs.FoundCount.{found}
 use Rattle.wellformed.proofs.shard_count.Given as goal
 
 abbrev pub invariant-loop-shards : goal.invariant-loop-shards
-invariant-loop-shards l = (shards_of l.len < l.shards → l.count ≡ shards_of l.len) × (l.shards ≤ shards_of l.len → l.count ≡ 0)
+invariant-loop-shards l = l.count ≡ found (shards_of l.len) l.shards
