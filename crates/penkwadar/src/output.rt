@@ -1,9 +1,9 @@
 // Writing to an output. A short write is not the end, nor is one that was interrupted or came too early.
-ghost use Rattle.std.specs.Prelude.{◌≤◌, length, take, OnOk, OnErr};
-ghost use Rattle.std.specs.Io.KnownBytes.{Appends};
+ghost use Rattle.std.specs.Prelude.{◌≤◌, length, take, IfOk, OnOk, OnErr};
+ghost use Rattle.std.specs.Io.KnownBytes.{Appends, Keeps};
 ghost use Rattle.penkwadar.specs.Counts.{AppendsSome};
 
-use crate::piece::{Piece, failed};
+use crate::passing::is_passing;
 use std::io;
 use std::io::{ErrorKind, Write};
 
@@ -14,32 +14,26 @@ pub fn write_all<W: Write>(to: &mut W, bytes: &[u8]) -> io::Result<()>
     ensures err { OnErr result (AppendsSome (W.contents to.old) (W.contents to.new) bytes.now) }
 {
     let mut count = 0;
-    let mut turns = u64::MAX;
-    while 0 < turns && count < bytes.len() {
-        turns -= 1;
-        let piece = write_piece(to, &bytes[count..]);
-        count += piece.count;
-        if !piece.more {
-            return Err(piece.error.unwrap_or(io::Error::from(ErrorKind::WriteZero)));
+    while count < bytes.len() {
+        match write_some(to, &bytes[count..])? {
+            0 => return Err(io::Error::from(ErrorKind::WriteZero)),
+            more => count += more,
         }
     }
-    if count == bytes.len() {
-        return Ok(());
-    }
-    Err(io::Error::from(ErrorKind::TimedOut))
+    Ok(())
 }
 
-// One write.
-fn write_piece<W: Write>(to: &mut W, bytes: &[u8]) -> Piece
-    ensures within { result.count ≤ length bytes.now }
-    ensures bytes { Appends (W.contents to.old) (W.contents to.new) (take result.count bytes.now) }
+// One write, made again while it fails for now. A proved loop has to end, so it has a number of turns that no run uses up.
+fn write_some<W: Write>(to: &mut W, bytes: &[u8]) -> io::Result<usize>
+    ensures within { IfOk result (λ count. count ≤ length bytes.now) }
+    ensures bytes { IfOk result (λ count. Appends (W.contents to.old) (W.contents to.new) (take count bytes.now)) }
+    ensures err { OnErr result (Keeps (W.contents to.old) (W.contents to.new)) }
 {
-    match to.write(bytes) {
-        Ok(count) => Piece {
-            count,
-            more: 0 < count,
-            error: None,
-        },
-        Err(error) => failed(error),
+    for _ in 0..u64::MAX {
+        match to.write(bytes) {
+            Err(error) if is_passing(&error) => {}
+            done => return done,
+        }
     }
+    Err(io::Error::from(ErrorKind::TimedOut))
 }

@@ -9,21 +9,11 @@ use Rattle.penkwadar.proofs.output.write_all.Goals as goal
 front_written : (a n : ℕ) (xs : List ℕ) → take a xs ++ take n (take (length xs - a) (drop a xs)) ≡ take (a + n) xs
 front_written a n xs = ap (λ l. take a xs ++ take n l) (take_rest xs a) ∙ sym (take-add a n xs)
 
-pub returns-then-not-piece-clause-err : goal.returns-then-not-piece-clause-err
-returns-then-not-piece-clause-err g c =
-    let l = c.loop-turns in
-    let piece = c.write_piece-piece in (
-      l.count + piece.result.count,
+pub loop-count-preserved : goal.loop-count-preserved
+loop-count-preserved g c =
+    let l = c.loop-count in
+    let more = c.in_ok-more in (
       search rules,
-      subst (Appends _ _) (front_written l.count piece.result.count c.args.bytes.now)
-          (Appends-trans _ _ _ _ _ l.invariant.1 piece.ensures.bytes),
-    )
-
-pub loop-turns-preserved : goal.loop-turns-preserved
-loop-turns-preserved g c =
-    let l = c.loop-turns in
-    let piece = c.write_piece-piece in (
-      search rules,
-      subst (Appends _ _) (front_written l.count piece.result.count c.args.bytes.now)
-          (Appends-trans _ _ _ _ _ l.invariant.1 piece.ensures.bytes),
+      subst (Appends _ _) (front_written l.count more.more c.args.bytes.now)
+          (Appends-trans _ _ _ _ _ l.invariant.1 more.ensures.bytes),
     )

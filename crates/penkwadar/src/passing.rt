@@ -1,0 +1,20 @@
+// Calls of `read` and `write` that fail for now.
+ghost use Rattle.std.specs.Prelude.{◌≡◌, ◌↔◌, ◌⊎◌, IsTrue};
+ghost use Rattle.std.specs.IoError.{error_kind};
+
+use std::io::ErrorKind;
+use std::{io, thread};
+
+// Whether a failed call is to be made again: a signal interrupted it, or nothing can be moved yet. Then other processes may run first.
+pub fn is_passing(error: &io::Error) -> bool
+    ensures { IsTrue result ↔ (error_kind error.now ≡ ErrorKind.Interrupted) ⊎ (error_kind error.now ≡ ErrorKind.WouldBlock) }
+{
+    match error.kind() {
+        ErrorKind::Interrupted => true,
+        ErrorKind::WouldBlock => {
+            thread::yield_now();
+            true
+        }
+        _ => false,
+    }
+}
