@@ -13,17 +13,18 @@ pub fn write_all<W: Write>(to: &mut W, bytes: &[u8]) -> io::Result<()>
     ensures ok { OnOk result (Appends (W.contents to.old) (W.contents to.new) bytes.now) }
     ensures err { OnErr result (AppendsSome (W.contents to.old) (W.contents to.new) bytes.now) }
 {
-    let mut count = 0;
-    while count < bytes.len() {
-        match write_some(to, &bytes[count..])? {
+    let mut rest = bytes;
+    while !rest.is_empty() {
+        match write_some(to, rest)? {
             0 => return Err(io::Error::from(ErrorKind::WriteZero)),
-            more => count += more,
+            count => rest = &rest[count..],
         }
     }
     Ok(())
 }
 
-// One write, made again while it fails for now. A proved loop has to end, so it has a number of turns that no run uses up.
+// One write, made again while it fails for now, as `input::read_some` does a read. One function over a closure for the call could not say which bytes
+// were moved: of what a closure has changed, a proof knows nothing after the calls.
 fn write_some<W: Write>(to: &mut W, bytes: &[u8]) -> io::Result<usize>
     ensures within { IfOk result (λ count. count ≤ length bytes.now) }
     ensures bytes { IfOk result (λ count. Appends (W.contents to.old) (W.contents to.new) (take count bytes.now)) }

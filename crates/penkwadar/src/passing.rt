@@ -5,7 +5,7 @@ ghost use Rattle.std.specs.IoError.{error_kind};
 use std::io::ErrorKind;
 use std::{io, thread};
 
-// Whether a failed call is to be made again: a signal interrupted it, or nothing can be moved yet. Then other processes may run first.
+// Whether a failed call is to be made again: a signal interrupted it (EINTR), or nothing can be moved yet (EAGAIN). Then other processes may run first.
 pub fn is_passing(error: &io::Error) -> bool
     ensures { IsTrue result ↔ (error_kind error.now ≡ ErrorKind.Interrupted) ⊎ (error_kind error.now ≡ ErrorKind.WouldBlock) }
 {
