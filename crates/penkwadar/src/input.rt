@@ -1,6 +1,8 @@
 // Reading an input to its end. A short read is not the end, nor is one that was interrupted or came too early.
-ghost use Rattle.std.specs.Prelude.{◌≡◌, ◌<◌, ◌≤◌, length, take, IfOk, OnErr};
+ghost use Rattle.std.specs.Prelude.{◌≡◌, ◌<◌, ◌≤◌, length, take, IfOk, IfErr, OnErr};
 ghost use Rattle.std.specs.Io.KnownBytes.{Consumes, IsAtEnd, Keeps};
+ghost use Rattle.std.specs.IoError.{error_kind};
+ghost use Rattle.penkwadar.specs.Passing.{IsPassing};
 ghost use Rattle.penkwadar.specs.Counts.{IsPrefixLen, ConsumesSome};
 
 use crate::passing::is_passing;
@@ -14,6 +16,7 @@ pub fn read_all<R: Read>(from: &mut R, buf: &mut [u8]) -> io::Result<usize>
     ensures bytes { IfOk result (λ count. Consumes (R.remaining from.old) (R.remaining from.new) (take count buf.new)) }
     ensures end { IfOk result (λ count. count < length buf.new → IsAtEnd (R.remaining from.new)) }
     ensures err { OnErr result (ConsumesSome (R.remaining from.old) (R.remaining from.new) buf.new) }
+    ensures lasting { IfErr result (λ error. ¬ (IsPassing (error_kind error))) }
 {
     let mut count = 0;
     while count < buf.len() {
@@ -31,6 +34,7 @@ fn read_some<R: Read>(from: &mut R, buf: &mut [u8]) -> io::Result<usize>
     ensures bytes { IfOk result (λ count. Consumes (R.remaining from.old) (R.remaining from.new) (take count buf.new)) }
     ensures end { IfOk result (λ count. count ≡ 0 → 0 < length buf.new → IsAtEnd (R.remaining from.new)) }
     ensures err { OnErr result (Keeps (R.remaining from.old) (R.remaining from.new)) }
+    ensures lasting { IfErr result (λ error. ¬ (IsPassing (error_kind error))) }
 {
     for _ in 0..u64::MAX {
         match from.read(buf) {

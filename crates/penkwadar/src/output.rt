@@ -1,6 +1,8 @@
 // Writing to an output. A short write is not the end, nor is one that was interrupted or came too early.
-ghost use Rattle.std.specs.Prelude.{◌≤◌, length, take, IfOk, OnOk, OnErr};
+ghost use Rattle.std.specs.Prelude.{◌≤◌, length, take, IfOk, IfErr, OnOk, OnErr};
 ghost use Rattle.std.specs.Io.KnownBytes.{Appends, Keeps};
+ghost use Rattle.std.specs.IoError.{error_kind};
+ghost use Rattle.penkwadar.specs.Passing.{IsPassing};
 ghost use Rattle.penkwadar.specs.Counts.{AppendsSome};
 
 use crate::passing::is_passing;
@@ -12,6 +14,7 @@ use std::io::{ErrorKind, Write};
 pub fn write_all<W: Write>(to: &mut W, bytes: &[u8]) -> io::Result<()>
     ensures ok { OnOk result (Appends (W.contents to.old) (W.contents to.new) bytes.now) }
     ensures err { OnErr result (AppendsSome (W.contents to.old) (W.contents to.new) bytes.now) }
+    ensures lasting { IfErr result (λ error. ¬ (IsPassing (error_kind error))) }
 {
     let mut rest = bytes;
     while !rest.is_empty() {
@@ -29,6 +32,7 @@ fn write_some<W: Write>(to: &mut W, bytes: &[u8]) -> io::Result<usize>
     ensures within { IfOk result (λ count. count ≤ length bytes.now) }
     ensures bytes { IfOk result (λ count. Appends (W.contents to.old) (W.contents to.new) (take count bytes.now)) }
     ensures err { OnErr result (Keeps (W.contents to.old) (W.contents to.new)) }
+    ensures lasting { IfErr result (λ error. ¬ (IsPassing (error_kind error))) }
 {
     for _ in 0..u64::MAX {
         match to.write(bytes) {
