@@ -9,8 +9,8 @@ use crate::passing::is_passing;
 use std::io;
 use std::io::{ErrorKind, Read};
 
-// Reads until the buffer is full or the input ends, and returns how many bytes were read. An error tells why not, that of a read that failed for good;
-// then some first bytes may have been read.
+// Reads until the buffer is full or the input ends, and returns how many bytes were read. An error tells why not: that of a read that failed for
+// good, or another where no turn was left. Then some first bytes may have been read.
 pub fn read_all<R: Read>(from: &mut R, buf: &mut [u8]) -> io::Result<usize>
     ensures within { IfOk result (λ count. IsPrefixLen count buf.new) }
     ensures bytes { IfOk result (λ count. Consumes (R.remaining from.old) (R.remaining from.new) (take count buf.new)) }

@@ -6,7 +6,8 @@ ghost use Rattle.penkwadar.specs.Passing.{IsPassing};
 use std::io::ErrorKind;
 use std::{io, thread};
 
-// Whether a failed call is to be made again: a signal interrupted it (EINTR), or nothing can be moved yet (EAGAIN). Then other processes may run first.
+// Whether a failed call is to be made again: a signal interrupted it (EINTR), or nothing can be moved yet (EAGAIN). Then other processes may run
+// first.
 pub fn is_passing(error: &io::Error) -> bool
     ensures { IsTrue result ↔ IsPassing (error_kind error.now) }
 {
