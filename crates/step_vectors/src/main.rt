@@ -21,7 +21,7 @@ const FNV_PRIME: u64 = 1099511628211;
 
 const FNV_BASIS: u64 = 14695981039346656037;
 
-// As many words as a state of eight shards has, at least.
+// The most words that a state of the vectors has.
 const SPACE_WORDS: usize = 40000;
 
 // One byte of the input, 0 at its end and where it cannot be read.
