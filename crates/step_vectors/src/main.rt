@@ -21,7 +21,7 @@ const FNV_PRIME: u64 = 1099511628211;
 
 const FNV_BASIS: u64 = 14695981039346656037;
 
-// The most words that a state of the vectors has.
+// The room for a state. A vector with a longer one counts as one that differs.
 const SPACE_WORDS: usize = 40000;
 
 // One byte of the input, 0 at its end and where it cannot be read.
