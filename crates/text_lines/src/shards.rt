@@ -1,33 +1,32 @@
 // The line of a shard: its stable history.
-ghost use Rattle.std.specs.Prelude.{◌≡◌, ◌+◌, length};
-ghost use Rattle.std.proofs.lemmas.List.Edits.{sets};
 ghost use Rattle.model.specs.Transcript.{spaced_all, shard_line};
 ghost use Rattle.stable_entries.specs.StableEntries.{entries_at};
+ghost use Rattle.decimal_text.specs.Appended.{Appended};
 ghost use Rattle.text_lines.specs.LineRoom.{LineRoom, EntriesRoom};
 
-use crate::number::{write_all_spaced, write_newline, write_word};
+use crate::number::{append_all_spaced, append_word};
+use decimal_text::text::Text;
 use stable_entries::pick::longest;
 use types::layout::{ENTRIES, STABLE};
 
-// The word `zone`, the shard's number, and the entries of its stable history.
-pub fn write_shard(out: &mut [u8], at: usize, state: &[u64], shard: u64) -> usize
-    requires { LineRoom out.old at state.now shard }
-    ensures value { result ≡ at + length (shard_line state.now shard) }
-    ensures out_after { out.new ≡ sets out.old at (shard_line state.now shard) }
+// Appends the word `zone`, the shard's number, and the entries of its stable history.
+pub fn append_shard(text: &mut Text<'_>, state: &[u64], shard: u64)
+    requires { LineRoom text.old state.now shard }
+    ensures { Appended text.old (shard_line state.now shard) text.new }
 {
     let place = longest(state, shard);
-    let a = write_word(out, at, b"zone", shard);
-    let b = write_entries(out, a, state, place);
-    write_newline(out, b)
+    append_word(text, b"zone", shard);
+    append_entries(text, state, place);
+    text.byte(b'\n');
 }
 
-// The stable prefix of the replica at a place.
-fn write_entries(out: &mut [u8], at: usize, state: &[u64], place: usize) -> usize
-    requires { EntriesRoom out.old at state.now place }
-    ensures value { result ≡ at + length (spaced_all (entries_at state.now place)) }
-    ensures out_after { out.new ≡ sets out.old at (spaced_all (entries_at state.now place)) }
+// Appends the stable prefix of the replica at a place.
+#[tactic(auto, using(decimal_text::proofs::Appending::appending, stable_entries::proofs::Stable::entries_part))]
+fn append_entries(text: &mut Text<'_>, state: &[u64], place: usize)
+    requires { EntriesRoom text.old state.now place }
+    ensures { Appended text.old (spaced_all (entries_at state.now place)) text.new }
 {
     let from = place + ENTRIES;
     let end = from + (state[place + STABLE] as usize);
-    write_all_spaced(out, at, &state[from..end])
+    append_all_spaced(text, &state[from..end]);
 }
