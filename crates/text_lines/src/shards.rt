@@ -1,8 +1,10 @@
 // The line of a shard: its stable history.
-ghost use Rattle.model.specs.Transcript.{spaced_all, shard_line};
-ghost use Rattle.stable_entries.specs.StableEntries.{entries_at};
-ghost use Rattle.decimal_text.specs.Appended.{Appended};
-ghost use Rattle.text_lines.specs.LineRoom.{LineRoom, EntriesRoom};
+ghost use Rattle.std.specs.Prelude.{◌≡◌};
+ghost use Rattle.model.specs.StableHistory.{stable_history};
+ghost use Rattle.model.specs.Transcript.{shard_line};
+ghost use Rattle.stable_entries.specs.Pick.{OfShard};
+ghost use Rattle.stable_entries.specs.StableEntries.{entries_at, HasEntries};
+ghost use Rattle.decimal_text.specs.Appended.{HasRoom, Appended};
 
 use crate::number::{append_all_spaced, append_word};
 use decimal_text::text::Text;
@@ -10,23 +12,33 @@ use stable_entries::pick::longest;
 use types::layout::{ENTRIES, STABLE};
 
 // Appends the word `zone`, the shard's number, and the entries of its stable history.
+#[tactic(auto, using(decimal_text::proofs::Appending::appending, crate::proofs::ShardText::shard_text_lem))]
 pub fn append_shard(text: &mut Text<'_>, state: &[u64], shard: u64)
-    requires { LineRoom text.old state.now shard }
+    requires of { OfShard state.now shard }
+    requires room { HasRoom text.old (shard_line state.now shard) }
     ensures { Appended text.old (shard_line state.now shard) text.new }
 {
-    let place = longest(state, shard);
     append_word(text, b"zone", shard);
-    append_entries(text, state, place);
+    append_all_spaced(text, stable_history(state, shard));
     text.byte(b'\n');
 }
 
-// Appends the stable prefix of the replica at a place.
-#[tactic(auto, using(decimal_text::proofs::Appending::appending, stable_entries::proofs::Stable::entries_part))]
-fn append_entries(text: &mut Text<'_>, state: &[u64], place: usize)
-    requires { EntriesRoom text.old state.now place }
-    ensures { Appended text.old (spaced_all (entries_at state.now place)) text.new }
+// A shard's stable history: the stable prefix of the replica that the pick finds.
+#[tactic(auto, using(stable_entries::proofs::Longest::picked_entries))]
+fn stable_history(state: &[u64], shard: u64) -> &[u64]
+    requires { OfShard state.now shard }
+    ensures { result.now ≡ stable_history state.now shard }
+{
+    entries(state, longest(state, shard))
+}
+
+// The stable prefix of the replica at a place.
+#[tactic(auto, using(stable_entries::proofs::Stable::entries_part))]
+fn entries(state: &[u64], place: usize) -> &[u64]
+    requires { HasEntries state.now place }
+    ensures { result.now ≡ entries_at state.now place }
 {
     let from = place + ENTRIES;
     let end = from + (state[place + STABLE] as usize);
-    append_all_spaced(text, &state[from..end]);
+    &state[from..end]
 }
