@@ -60,11 +60,3 @@ module _ {first t : Text} {all : List ℕ} where
 
   pub left_end : Left first all t [] → Appended first all t
   left_end h = rw (h.split, append-nil h.done) h.so_far
-
-  -- one part is left
-  module _ {part : List ℕ} (h : Left first all t part) where
-    pub left_room_last : HasRoom t part
-    left_room_last = left_room part [] (rw (append-nil part) h)
-
-    pub left_last : {u : Text} → Appended t part u → Appended first all u
-    left_last a = rw h.split (appended_both h.so_far a)
