@@ -5,8 +5,11 @@
 pub mod read;
 pub mod write;
 
-// A number has at most so many bytes, so it is below 2^35.
+// A number has at most so many bytes.
 pub const MOST_BYTES: usize = 5;
 
-// The bit of a byte that tells that more follow: the bits below it are seven bits of the number.
+// What they hold, seven bits each, is below it.
+pub const LIMIT: u64 = 1 << 35;
+
+// The bit of a byte that tells that more follow; the bits below it are the number's.
 pub const TOP_BIT: u64 = 128;
