@@ -1,5 +1,5 @@
 -- Whose rejection a step's is (document 02, A7).
-use Rattle.std.specs.Prelude.{ℕ, ◌≡◌, cond, ◌||◌, List, eqb, Option, Some, None}
+use Rattle.std.specs.Prelude.{ℕ, ◌≡◌, cond, ◌||◌, List, eqb}
 use Rattle.types.specs.declared.step.Step.{Step}
 use Rattle.types.specs.declared.rejection.Rejection.{Rejection}
 use Rattle.types.specs.Kinds.{kind_of}
@@ -15,13 +15,8 @@ use Rattle.lookup.specs.Ready.{Formed}
 abbrev pub no_host : ℕ
 no_host = 16
 
--- the count that a host has, or none
-abbrev pub host_count : Option ℕ → ℕ
-host_count (Some h) = h
-host_count None = no_host
-
 -- "No box is named .. for add, when refusal 7 or 10 occurs."
-unfoldable pub orderer_named : List ℕ → Step → ℕ
+abbrev pub orderer_named : List ℕ → Step → ℕ
 orderer_named w s = cond (eqb (rejection w s) 7 || eqb (rejection w s) 10) no_host (orderer w (shard_of s) (configuration_of s))
 
 -- "The box is the named one; for add it is the orderer of the named configuration."

@@ -2,31 +2,31 @@
 
 #![tactic(auto)]
 
-ghost use Rattle.std.specs.Prelude.{◌≡◌, ◌<◌, IfSome};
-ghost use Rattle.rejection_hosts.specs.RejectionHosts.{RejectedStep, orderer_named, host_count, count_of, no_host};
+ghost use Rattle.std.specs.Prelude.{◌≡◌, ◌<◌, IfSome, unwrap_or};
+ghost use Rattle.rejection_hosts.specs.RejectionHosts.{RejectedStep, orderer_named, count_of, no_host};
 
 use lookup::name::Named;
 use types::rejection::Rejection;
 use types::step::Step;
 
-// Hosts are 0 to 15.
-const HOSTS: u64 = 16;
+// Hosts are 0 to 15. The number after them is no host's.
+const NO_HOST: u64 = 16;
 
 // The host that a rejection counts for: the acting host; of an add, the orderer of the configuration named. None where no host, or no host's number, is
 // named.
 pub fn count_of(state: &[u64], s: Step, rejection: Rejection) -> Option<u64>
     requires { RejectedStep state.now s rejection }
-    ensures value { host_count result ≡ count_of state.now s }
+    ensures value { unwrap_or result no_host ≡ count_of state.now s }
     ensures host { IfSome result (λ host. host < no_host) }
 {
-    let host = s.host(orderer_named(state, s, rejection).unwrap_or(HOSTS));
-    if host < HOSTS { Some(host) } else { None }
+    let host = s.host(orderer_named(state, s, rejection).unwrap_or(NO_HOST));
+    if host < NO_HOST { Some(host) } else { None }
 }
 
 // The orderer of the configuration that a rejected step names, which has none where the rejection is 7 or 10.
 fn orderer_named(state: &[u64], s: Step, rejection: Rejection) -> Option<u64>
     requires { RejectedStep state.now s rejection }
-    ensures { host_count result ≡ orderer_named state.now s }
+    ensures { unwrap_or result no_host ≡ orderer_named state.now s }
 {
     if matches!(rejection, Rejection::OutOfRange | Rejection::NotInstalled) {
         return None;
