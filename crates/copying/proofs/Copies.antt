@@ -1,12 +1,11 @@
 -- The 64 words of a replica, copied and changed, in another replica's place.
 -- Assumes nothing.
-use Prim.Native.Nat.{ℕ, ◌+◌, ◌-◌, ◌≤◌}
+use Prim.Native.Nat.{ℕ, ◌+◌, ◌-◌}
 use native.Mathlib.Nat.{add-sub_cancel_left}
-use native.Mathlib.Omega.{arith}
 use mathlib.Core.Path.{◌≡◌, ap, ◌∙◌}
 use mathlib.Core.List.{List}
 use borrow.Rule.Slice.PartMut.{put_mid}
-use lib.ListN.{length, take, drop, set, length-take, length-drop}
+use lib.ListN.{take, drop, set}
 use lib.Seq.{drop-drop}
 use Rattle.model.specs.Replicas.{Replica, replica_words}
 use Rattle.model.specs.Layout.{part, replica_at, put_replica}
@@ -17,9 +16,6 @@ use Rattle.copying.specs.Copies.{copied}
 lent_part : (w : List ℕ) (at : ℕ) → take (at + 64 - at) (drop at w) ≡ part w at
 unfolding part
 lent_part w at = ap (λ (n : ℕ). take n (drop at w)) (add-sub_cancel_left at 64)
-
-pub lent_length : (w : List ℕ) (at : ℕ) → at + 64 ≤ length w → length (take (at + 64 - at) (drop at w)) ≡ 64
-lent_length w at h = simp (length-take, length-drop) (omega arith)
 
 -- the state with a replica's words in the place that was lent
 lent_put : (w : List ℕ) (at : ℕ) (l : List ℕ) (r : Replica) → l ≡ replica_words r → put_mid at (at + 64 - at) w l ≡ put_replica w at r

@@ -2,25 +2,12 @@
 
 #![tactic(auto)]
 
-ghost use Rattle.std.specs.Prelude.{◌≡◌, length};
-ghost use Rattle.types.specs.ReplicaPlace.{part_words};
+ghost use Rattle.std.specs.Prelude.{◌≡◌};
 ghost use Rattle.model.specs.Layout.{replica_at, put_replica};
 ghost use Rattle.lookup.specs.Ready.{Placed, HoldsReplica};
 ghost use Rattle.copying.specs.Copies.{copied};
 
 use types::layout::{ORIGIN, REPLICA_WORDS, STABLE};
-
-// All words of a replica, from a copy.
-fn copy_words(words: &mut [u64], from: &[u64])
-    requires { (length words.old ≡ part_words) × (length from.now ≡ part_words) }
-    ensures { words.new ≡ from.now }
-{
-    let mut i = 0;
-    while i < REPLICA_WORDS {
-        words[i] = from[i];
-        i += 1;
-    }
-}
 
 // The replica at p gets the words of the one at q, but for the mode, the stable length and the origin.
 pub fn copy_replica(state: &mut [u64], p: usize, q: usize, mode: u64, stable: u64, origin: u64)
@@ -29,10 +16,10 @@ pub fn copy_replica(state: &mut [u64], p: usize, q: usize, mode: u64, stable: u6
 {
     let last = q + REPLICA_WORDS;
     let mut copy = [0u64; REPLICA_WORDS];
-    copy_words(&mut copy, &state[q..last]);
+    copy.copy_from_slice(&state[q..last]);
     copy[0] = mode;
     copy[STABLE] = stable;
     copy[ORIGIN] = origin;
     let end = p + REPLICA_WORDS;
-    copy_words(&mut state[p..end], &copy);
+    state[p..end].copy_from_slice(&copy);
 }

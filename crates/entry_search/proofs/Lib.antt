@@ -1,3 +1,2 @@
 -- Laws of the searches.
-pub mod Likes
 pub mod Searches

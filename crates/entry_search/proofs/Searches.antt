@@ -1,22 +1,23 @@
 -- What a search by the bits from one on tells: of an entry itself, and of an issue for the shard and the index of another.
 -- Assumes nothing.
 use Prim.Native.Nat.{ℕ, zero, suc, ◌+◌, ◌*◌, ◌/◌, ◌^◌, ◌<◌}
-use native.Mathlib.Nat.{div-one, not-suc-le-zero}
+use native.Mathlib.Nat.{not-suc-le-zero}
 use native.Mathlib.Omega.{arith}
 use mathlib.Core.Path.{◌≡◌, refl, sym, ap, ◌∙◌}
-use mathlib.Core.Bool.{Bool, true, false, not, true≢false}
+use mathlib.Core.Bool.{Bool, true, false, not, ◌||◌, true≢false}
 use mathlib.Core.List.{List, [], ◌∷◌}
 use lib.ListN.{length, get_or}
 use lib.Pow.{shr-shr}
 use lib.Dec.{eqb}
 use borrow.Author.Tests.{eqb-true, eqb-false}
+use Rattle.std.specs.List.{list_any}
 use Rattle.model.specs.Tests.{contains}
 use Rattle.model.specs.Entries.{is_issue, is_issue_for, issue_shard, issue_index, names}
 use Rattle.model.specs.Install.{none_before}
 use Rattle.model.proofs.Tests.{or_left, or_right}
 use Rattle.model.proofs.Issues.{none_before_lem, none_there}
 use Rattle.model.proofs.Rivals.{Named, named, names_own}
-use Rattle.entry_search.specs.Searches.{has_like, issued_in}
+use Rattle.entry_search.specs.Searches.{issued_in}
 
 -- ---- one word
 
@@ -52,17 +53,16 @@ module _ (e x : ℕ) (is : is_issue e ≡ true) where
 
 -- ---- a list
 
--- from bit 0 on, an entry itself is looked for
-pub like_entry : (e : ℕ) (l : List ℕ) → has_like 0 e l ≡ contains e l
-unfolding has_like contains
-like_entry e [] = refl
-like_entry e (x ∷ l) = rw (div-one x, div-one e, like_entry e l)
+pub contained : (e : ℕ) (l : List ℕ) → list_any (λ x. eqb x e) l ≡ contains e l
+unfolding contains
+contained e [] = refl
+contained e (x ∷ l) = ap (λ (b : Bool). eqb x e || b) (contained e l)
 
 -- from bit 20 on, an issue for the same shard and index
-pub like_issue : (e : ℕ) (l : List ℕ) → is_issue e ≡ true → has_like 20 e l ≡ issued_in (issue_shard e) (issue_index e) l
-unfolding has_like issued_in
-like_issue e [] is = refl
-like_issue e (x ∷ l) is = rw (name_tells e x is, like_issue e l is)
+pub alike_issued : (e : ℕ) (l : List ℕ) → is_issue e ≡ true → list_any (λ x. eqb (x / 2 ^ 20) (e / 2 ^ 20)) l ≡ issued_in (issue_shard e) (issue_index e) l
+unfolding issued_in
+alike_issued e [] is = refl
+alike_issued e (x ∷ l) is = rw (name_tells e x is, alike_issued e l is)
 
 -- no issue for a shard and an index is in a list: there is none at any of its places
 pub issued_nowhere : (z i : ℕ) (l : List ℕ) → issued_in z i l ≡ false → (q : ℕ) → q < length l → names z i (get_or l q 0) ≡ false

@@ -64,6 +64,9 @@ shards_most n = most_of (counted n)
 pub shards_fit : (n : ℕ) → shards_of n * shard_words ≤ n
 shards_fit n = fit_of (counted n)
 
+pub shards_long : (n : ℕ) → 2 ≤ shards_of n → n ≡ shards_of n * shard_words
+shards_long n = length_of (counted n)
+
 pub length_of_shards : (w : List ℕ) (Z : ℕ) → shards_of (length w) ≡ Z → 2 ≤ Z → (length w ≡ Z * shard_words) × (Z ≤ 8)
 length_of_shards w Z e h =
     let l = length_of (counted (length w)) (omega arith) in
@@ -72,7 +75,7 @@ length_of_shards w Z e h =
 -- ---- the quotient
 
 -- each of the seven lengths has its shards
-each_length : (Z : ℕ) → 2 ≤ Z → Z ≤ 8 → shards_of (Z * shard_words) ≡ Z
+pub each_length : (Z : ℕ) → 2 ≤ Z → Z ≤ 8 → shards_of (Z * shard_words) ≡ Z
 unfolding shards_of all_below
 each_length Z l m =
     eqb-true (shards_of (Z * shard_words)) Z

@@ -2,6 +2,7 @@
 -- Tests, lists, words
 pub mod Tests
 pub mod AllOf
+pub mod RangeCalls
 pub mod Concat
 pub mod Checks
 pub mod Orders

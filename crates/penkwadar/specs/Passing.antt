@@ -1,7 +1,8 @@
 -- Which failed calls of `read` and `write` are made again.
-use Rattle.std.specs.Prelude.{Bool, false, ◌||◌, eqb, ℤ, pos, negsuc}
+use Rattle.std.specs.Prelude.{◌≡◌, ◌⊎◌}
+use Rattle.std.specs.declared.io.ErrorKind.{ErrorKind}
+use Rattle.std.specs.declared.io.ErrorKind.TheVariants.{Interrupted, WouldBlock}
 
--- a signal interrupted the call (EINTR, 4), or nothing can be moved yet (EAGAIN, 11)
-unfoldable pub is_passing : ℤ → Bool
-is_passing (pos n) = eqb n 4 || eqb n 11
-is_passing (negsuc n) = false
+-- a signal interrupted the call (EINTR), or nothing can be moved yet (EAGAIN)
+abbrev pub IsPassing : ErrorKind → Type 0
+IsPassing kind = (kind ≡ Interrupted) ⊎ (kind ≡ WouldBlock)

@@ -1,59 +1,46 @@
 // Reading an input to its end. A short read is not the end, nor is one that was interrupted or came too early.
-ghost use Rattle.std.specs.Prelude.{◌≡◌, ◌<◌, length, take, true, false, IsNone};
-ghost use Rattle.std.specs.Io.KnownBytes.{Consumes, IsAtEnd};
-ghost use Rattle.penkwadar.specs.Counts.{IsPrefixLen};
+ghost use Rattle.std.specs.Prelude.{◌≡◌, ◌<◌, ◌≤◌, length, take, IfOk, IfErr, OnErr};
+ghost use Rattle.std.specs.Io.KnownBytes.{Consumes, IsAtEnd, Keeps};
+ghost use Rattle.std.specs.IoError.{error_kind};
+ghost use Rattle.penkwadar.specs.Passing.{IsPassing};
+ghost use Rattle.penkwadar.specs.Counts.{IsPrefixLen, ConsumesSome};
 
-use crate::piece::{Piece, failed};
+use crate::passing::is_passing;
 use std::io;
-use std::io::Read;
+use std::io::{ErrorKind, Read};
 
-// How many bytes were read, and whether that is the whole input, or as much of it as there is room for. If not, `error` tells why.
-#[derive(Clone, Copy)]
-pub struct Input {
-    pub count: usize,
-    pub whole: bool,
-    pub error: Option<io::Error>,
-}
-
-// Reads until the buffer is full or the input ends. A proved loop has to end, so it counts its turns down, from a number that no run uses up.
-pub fn read_all<R: Read>(from: &mut R, buf: &mut [u8]) -> Input
-    ensures within { IsPrefixLen result.count buf.new }
-    ensures bytes { Consumes (R.remaining from.old) (R.remaining from.new) (take result.count buf.new) }
-    ensures whole { result.whole ≡ true → result.count < length buf.new → IsAtEnd (R.remaining from.new) }
+// Reads until the buffer is full or the input ends, and returns how many bytes were read. An error tells why not: that of a read that failed for
+// good, or another where no turn was left. Then some first bytes may have been read.
+pub fn read_all<R: Read>(from: &mut R, buf: &mut [u8]) -> io::Result<usize>
+    ensures within { IfOk result (λ count. IsPrefixLen count buf.new) }
+    ensures bytes { IfOk result (λ count. Consumes (R.remaining from.old) (R.remaining from.new) (take count buf.new)) }
+    ensures end { IfOk result (λ count. count < length buf.new → IsAtEnd (R.remaining from.new)) }
+    ensures err { OnErr result (ConsumesSome (R.remaining from.old) (R.remaining from.new) buf.new) }
+    ensures lasting { IfErr result (λ error. ¬ (IsPassing (error_kind error))) }
 {
     let mut count = 0;
-    let mut turns = u64::MAX;
-    while 0 < turns && count < buf.len() {
-        turns -= 1;
-        let piece = read_piece(from, &mut buf[count..]);
-        count += piece.count;
-        if !piece.more {
-            return Input {
-                count,
-                whole: piece.error.is_none(),
-                error: piece.error,
-            };
+    while count < buf.len() {
+        match read_some(from, &mut buf[count..])? {
+            0 => return Ok(count),
+            more => count += more,
         }
     }
-    Input {
-        count,
-        whole: count == buf.len(),
-        error: None,
-    }
+    Ok(count)
 }
 
-// One read.
-fn read_piece<R: Read>(from: &mut R, buf: &mut [u8]) -> Piece
-    ensures within { IsPrefixLen result.count buf.new }
-    ensures bytes { Consumes (R.remaining from.old) (R.remaining from.new) (take result.count buf.new) }
-    ensures end { IsNone result.error → result.more ≡ false → 0 < length buf.new → IsAtEnd (R.remaining from.new) }
+// One read, made again while it fails for now. A proved loop has to end, so it has a number of turns that no run uses up.
+fn read_some<R: Read>(from: &mut R, buf: &mut [u8]) -> io::Result<usize>
+    ensures within { IfOk result (λ count. IsPrefixLen count buf.new) }
+    ensures bytes { IfOk result (λ count. Consumes (R.remaining from.old) (R.remaining from.new) (take count buf.new)) }
+    ensures end { IfOk result (λ count. count ≡ 0 → 0 < length buf.new → IsAtEnd (R.remaining from.new)) }
+    ensures err { OnErr result (Keeps (R.remaining from.old) (R.remaining from.new)) }
+    ensures lasting { IfErr result (λ error. ¬ (IsPassing (error_kind error))) }
 {
-    match from.read(buf) {
-        Ok(count) => Piece {
-            count,
-            more: 0 < count,
-            error: None,
-        },
-        Err(error) => failed(error),
+    for _ in 0..u64::MAX {
+        match from.read(buf) {
+            Err(error) if is_passing(&error) => {}
+            done => return done,
+        }
     }
+    Err(io::Error::from(ErrorKind::TimedOut))
 }

@@ -12,20 +12,20 @@ use types::Writing;
 
 mod input;
 mod output;
-mod piece;
+mod passing;
+
+// The most bytes that a log may have, and one more.
+const READ_BYTES: usize = 16385;
 
 fn main(rt: HostRuntime) {
     if has_arguments(&rt) {
         usage(&rt);
         return;
     }
-    let mut log = [0u8; 16385];
-    let input = input::read_all(&mut rt.stdin(), &mut log);
-    let count = input.count;
-    if input.whole {
-        show(&rt, &log[..count]);
-    } else {
-        fail(&rt, "penkwadar: cannot read the log", input.error);
+    let mut log = [0u8; READ_BYTES];
+    match input::read_all(&mut rt.stdin(), &mut log) {
+        Ok(count) => show(&rt, &log[..count]),
+        Err(error) => fail(&rt, "penkwadar: cannot read the log", error),
     }
 }
 
@@ -61,25 +61,20 @@ fn print(rt: &(impl Print + Eprint + Alloc), out: &[u8], len: usize)
     requires { len ≤ length out.now }
 {
     if let Err(error) = output::write_all(&mut io::writer(rt), &out[..len]) {
-        fail(rt, "penkwadar: cannot write the text", Some(error));
+        fail(rt, "penkwadar: cannot write the text", error);
     }
 }
 
-// Tells on standard error what failed, and why where that is known.
-fn fail(rt: &(impl Eprint + Alloc), what: &str, error: Option<io::Error>) {
-    let _ = match error {
-        Some(error) => match format!(in rt.alloc(); "{error}") {
-            Ok(text) => eprintln!(rt; "{what}: {}", reason(text.as_str())),
-            Err(_) => eprintln!(rt; "{what}: {error}"),
-        },
-        None => eprintln!(rt; "{what}"),
+// Tells on standard error what failed, and why.
+fn fail(rt: &(impl Eprint + Alloc), what: &str, error: io::Error) {
+    let _ = match format!(in rt.alloc(); "{error}") {
+        Ok(text) => eprintln!(rt; "{what}: {}", reason(&text)),
+        Err(_) => eprintln!(rt; "{what}: {error}"),
     };
 }
 
 // The text of a system error, without the number that std writes after it.
 fn reason(text: &str) -> &str {
-    match text.split_once(" (os error ") {
-        Some((reason, _)) => reason,
-        None => text,
-    }
+    text.split_once(" (os error ")
+        .map_or(text, |(reason, _)| reason)
 }

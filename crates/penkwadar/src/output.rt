@@ -1,45 +1,44 @@
 // Writing to an output. A short write is not the end, nor is one that was interrupted or came too early.
-ghost use Rattle.std.specs.Prelude.{◌≤◌, length, take, OnOk, OnErr};
-ghost use Rattle.std.specs.Io.KnownBytes.{Appends};
+ghost use Rattle.std.specs.Prelude.{◌≤◌, length, take, IfOk, IfErr, OnOk, OnErr};
+ghost use Rattle.std.specs.Io.KnownBytes.{Appends, Keeps};
+ghost use Rattle.std.specs.IoError.{error_kind};
+ghost use Rattle.penkwadar.specs.Passing.{IsPassing};
 ghost use Rattle.penkwadar.specs.Counts.{AppendsSome};
 
-use crate::piece::{Piece, failed};
+use crate::passing::is_passing;
 use std::io;
 use std::io::{ErrorKind, Write};
 
-// Writes all bytes. An error tells why not: that of a write that failed for good, or another where a write took nothing or no turn was left. Then some
-// first bytes may have been written.
+// Writes all bytes. An error tells why not: that of a write that failed for good, or another where a write took nothing or no turn was left. Then
+// some first bytes may have been written.
 pub fn write_all<W: Write>(to: &mut W, bytes: &[u8]) -> io::Result<()>
     ensures ok { OnOk result (Appends (W.contents to.old) (W.contents to.new) bytes.now) }
     ensures err { OnErr result (AppendsSome (W.contents to.old) (W.contents to.new) bytes.now) }
+    ensures lasting { IfErr result (λ error. ¬ (IsPassing (error_kind error))) }
 {
-    let mut count = 0;
-    let mut turns = u64::MAX;
-    while 0 < turns && count < bytes.len() {
-        turns -= 1;
-        let piece = write_piece(to, &bytes[count..]);
-        count += piece.count;
-        if !piece.more {
-            return Err(piece.error.unwrap_or(io::Error::from(ErrorKind::WriteZero)));
+    let mut rest = bytes;
+    while !rest.is_empty() {
+        match write_some(to, rest)? {
+            0 => return Err(io::Error::from(ErrorKind::WriteZero)),
+            count => rest = &rest[count..],
         }
     }
-    if count == bytes.len() {
-        return Ok(());
-    }
-    Err(io::Error::from(ErrorKind::TimedOut))
+    Ok(())
 }
 
-// One write.
-fn write_piece<W: Write>(to: &mut W, bytes: &[u8]) -> Piece
-    ensures within { result.count ≤ length bytes.now }
-    ensures bytes { Appends (W.contents to.old) (W.contents to.new) (take result.count bytes.now) }
+// One write, made again while it fails for now, as `input::read_some` does a read. One function over a closure for the call could not say which bytes
+// were moved: of what a closure has changed, a proof knows nothing after the calls.
+fn write_some<W: Write>(to: &mut W, bytes: &[u8]) -> io::Result<usize>
+    ensures within { IfOk result (λ count. count ≤ length bytes.now) }
+    ensures bytes { IfOk result (λ count. Appends (W.contents to.old) (W.contents to.new) (take count bytes.now)) }
+    ensures err { OnErr result (Keeps (W.contents to.old) (W.contents to.new)) }
+    ensures lasting { IfErr result (λ error. ¬ (IsPassing (error_kind error))) }
 {
-    match to.write(bytes) {
-        Ok(count) => Piece {
-            count,
-            more: 0 < count,
-            error: None,
-        },
-        Err(error) => failed(error),
+    for _ in 0..u64::MAX {
+        match to.write(bytes) {
+            Err(error) if is_passing(&error) => {}
+            done => return done,
+        }
     }
+    Err(io::Error::from(ErrorKind::TimedOut))
 }

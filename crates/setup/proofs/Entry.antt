@@ -10,47 +10,42 @@ use borrow.Author.Tests.{le-leb, lt-leb, not-true, not-false}
 use Rattle.model.specs.Checks.{first_of}
 use Rattle.model.specs.Layout.{shard_words, shards_of, is_state_length}
 use Rattle.model.specs.Setup.{is_plan, setup_rejection, after_setup, initial_state}
-use Rattle.model.proofs.Lengths.{several, shards_most, length_of_shards}
+use Rattle.model.proofs.Lengths.{shards_most, length_of_shards}
 use Rattle.setup.specs.Planned.{Planned}
 use Rattle.setup.proofs.InitialPlan.{planned}
 
+-- no state has the length
+pub no_shards : (w p : List ℕ) → shards_of (length w) ≡ 0 → (1 ≡ setup_rejection w p) × (w ≡ after_setup w p)
+unfolding setup_rejection after_setup first_of is_state_length
+no_shards w p e = let l = lt-leb 2 (shards_of (length w)) (omega (arith, e)) in (rw l, rw l)
+
 -- n shards were counted
-module _ (w p : List ℕ) {n : ℕ} (count : n ≡ shards_of (length w)) where
-  pub no_shards : n ≡ 0 → (1 ≡ setup_rejection w p) × (w ≡ after_setup w p)
-  unfolding setup_rejection after_setup first_of is_state_length
-  no_shards e =
-      let l = lt-leb 2 (shards_of (length w)) (omega (arith, sym count ∙ e)) in
-      (rw l, rw l)
+module _ (w p : List ℕ) {n : ℕ} (count : n ≡ shards_of (length w)) (two : 2 ≤ shards_of (length w)) where
+  pub few : n ≤ 8
+  few = rw count (shards_most (length w))
 
-  module _ (some : n ≡ 0 → ⊥) where
-    two : 2 ≤ shards_of (length w)
-    two = several (length w) (λ e. some (count ∙ e))
+  -- b is the test of the plan
+  module _ {b : Bool} (test : b ≡ is_plan n p) where
+    tested : {t : Bool} → b ≡ t → is_plan (shards_of (length w)) p ≡ t
+    tested e = ap (λ (z : ℕ). is_plan z p) (sym count) ∙ sym test ∙ e
 
-    pub few : n ≤ 8
-    few = rw count (shards_most (length w))
+    pub no_plan : not b ≡ true → (2 ≡ setup_rejection w p) × (w ≡ after_setup w p)
+    unfolding setup_rejection after_setup first_of is_state_length
+    no_plan e =
+        let l = le-leb 2 (shards_of (length w)) two in
+        let t = tested (not-true b e) in
+        (rw (l, t), rw (l, t))
 
-    -- b is the test of the plan
-    module _ {b : Bool} (test : b ≡ is_plan n p) where
-      tested : {t : Bool} → b ≡ t → is_plan (shards_of (length w)) p ≡ t
-      tested e = ap (λ (z : ℕ). is_plan z p) (sym count) ∙ sym test ∙ e
+    module _ (passed : not b ≡ false) where
+      pub may_write : (length w ≡ n * shard_words) × Planned n p
+      may_write = (
+        (length_of_shards w n (sym count) (rw count two)).0,
+        planned n p few (sym test ∙ not-false b passed),
+      )
 
-      pub no_plan : not b ≡ true → (2 ≡ setup_rejection w p) × (w ≡ after_setup w p)
+      pub written : {v : List ℕ} → v ≡ initial_state n p → (0 ≡ setup_rejection w p) × (v ≡ after_setup w p)
       unfolding setup_rejection after_setup first_of is_state_length
-      no_plan e =
+      written e =
           let l = le-leb 2 (shards_of (length w)) two in
-          let t = tested (not-true b e) in
-          (rw (l, t), rw (l, t))
-
-      module _ (passed : not b ≡ false) where
-        pub may_write : (length w ≡ n * shard_words) × Planned n p
-        may_write = (
-          (length_of_shards w n (sym count) (rw count two)).0,
-          planned n p few (sym test ∙ not-false b passed),
-        )
-
-        pub written : {v : List ℕ} → v ≡ initial_state n p → (0 ≡ setup_rejection w p) × (v ≡ after_setup w p)
-        unfolding setup_rejection after_setup first_of is_state_length
-        written e =
-            let l = le-leb 2 (shards_of (length w)) two in
-            let t = tested (not-false b passed) in
-            (rw (l, t), e ∙ rw (count, l, t))
+          let t = tested (not-false b passed) in
+          (rw (l, t), e ∙ rw (count, l, t))

@@ -50,7 +50,6 @@ other_words k n d = ap (λ (b : Bool). replica_words (cond b fresh unused)) (go 
 
 -- v has the head words, and k of the replicas are active
 pub record Started (q m o k : ℕ) (v : List ℕ) : Type 0 where
-  pub most : k ≤ size m
   pub long : length v ≡ 2112
   pub words : v ≡ initial_head q m o ++ concat_below 32 (active_words k)
 
@@ -64,7 +63,6 @@ head_stores q m o l = refl
 pub head_started : (q m o : ℕ) (v : List ℕ) → v ≡ replicate 2112 0 → Started q m o 0 (set (set (set (set v 0 q) 1 1) 2 m) 10 o)
 head_started q m o v e =
     record {
-      most = omega arith;
       long = simp length-set (zeros-length v 2112 e);
       words =
           ap (λ (l : List ℕ). set (set (set (set l 0 q) 1 1) 2 m) 10 o) (e ∙ sym (replicate-append-replicate 64 2048 0))
@@ -76,7 +74,6 @@ pub next_started : (q m o k : ℕ) (v : List ℕ) → k < size m → size m ≤ 
 unfolding initial_head
 next_started q m o k v h l s =
     record {
-      most = omega arith;
       long = length-set v (64 + k * 64) 2 ∙ s.long;
       words =
           ap (λ (l : List ℕ). set l (64 + k * 64) 2) s.words
@@ -84,8 +81,6 @@ next_started q m o k v h l s =
           (other_words k) 32 (omega arith);
     }
 
-pub all_started : (q m o k : ℕ) (v : List ℕ) → size m ≤ k → Started q m o k v → v ≡ initial_shard q m o
+pub all_started : (q m o k : ℕ) (v : List ℕ) → k ≡ size m → Started q m o k v → v ≡ initial_shard q m o
 unfolding initial_shard initial_replica active_words
-all_started q m o k v h s =
-    let e : k ≡ size m = omega (arith, s.most) in
-    s.words ∙ ap (λ (n : ℕ). initial_head q m o ++ concat_below 32 (active_words n)) e
+all_started q m o k v e s = s.words ∙ ap (λ (n : ℕ). initial_head q m o ++ concat_below 32 (active_words n)) e

@@ -1,6 +1,6 @@
 -- The state that setup writes, shard after shard.
 -- Assumes nothing.
-use Prim.Native.Nat.{ℕ, zero, ◌+◌, ◌-◌, ◌*◌, ◌≤◌, ◌<◌}
+use Prim.Native.Nat.{ℕ, zero, ◌+◌, ◌-◌, ◌*◌, ◌<◌}
 use native.Mathlib.Numerals.{add-one}
 use native.Mathlib.Omega.{arith}
 use mathlib.Core.Path.{◌≡◌, refl, sym, ap, ap₂, ◌∙◌}
@@ -22,7 +22,6 @@ next_shard plan z = rw add-one refl
 
 -- v is w with its first z shards written
 pub record Written (Z : ℕ) (plan w : List ℕ) (z : ℕ) (v : List ℕ) : Type 0 where
-  pub most : z ≤ Z
   pub long : length v ≡ Z * 2112
   pub words : v ≡ initial_state z plan ++ drop (z * 2112) w
 
@@ -36,7 +35,7 @@ zeros-part a n b =
 module _ (Z : ℕ) (plan w : List ℕ) (h : length w ≡ Z * 2112) where
   pub none_written : Written Z plan w 0 w
   unfolding initial_state concat_below
-  none_written = record { most = omega arith; long = h; words = refl }
+  none_written = record { long = h; words = refl }
 
   -- the state with shard z written
   written : (z : ℕ) (v : List ℕ) → Written Z plan w z v
@@ -68,14 +67,12 @@ module _ (Z : ℕ) (plan w : List ℕ) (h : length w ≡ Z * 2112) where
       → Written Z plan w z v → Written Z plan w (z + 1) (put_mid (z * 2112) (z * 2112 + 2112 - z * 2112) v part)
   next_written z v part l e same s =
       record {
-        most = omega arith;
         long = same ∙ s.long;
         words = ap (put_mid (z * 2112) (z * 2112 + 2112 - z * 2112) v) e ∙ written z v s;
       }
 
-  pub all_written : (z : ℕ) (v : List ℕ) → Z ≤ z → Written Z plan w z v → v ≡ initial_state Z plan
-  all_written z v l s =
-      let e : z ≡ Z = omega (arith, s.most) in
+  pub all_written : (z : ℕ) (v : List ℕ) → z ≡ Z → Written Z plan w z v → v ≡ initial_state Z plan
+  all_written z v e s =
       s.words ∙ ap (λ (l : List ℕ). initial_state z plan ++ l) (drop_of_length-le w {i = z * 2112} (omega arith))
       ∙ append-nil (initial_state z plan) ∙ ap (λ (n : ℕ). initial_state n plan) e
 

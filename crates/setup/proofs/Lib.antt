@@ -1,5 +1,4 @@
 -- Laws that the proofs of setup's functions share.
-pub mod InitialZeros
 pub mod InitialConcat
 pub mod InitialParts
 pub mod InitialShards

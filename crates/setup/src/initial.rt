@@ -9,17 +9,6 @@ use crate::plan::SHARD_PLAN;
 use types::configuration::Configuration;
 use types::layout::{ACTIVE, HEAD_WORDS, INSTALLED, MEMBERS, ORDERERS, REPLICA_WORDS, SHARD_WORDS};
 
-// All words 0.
-fn clear(words: &mut [u64])
-    ensures { words.new ≡ replicate (length words.old) 0 }
-{
-    let mut i = 0;
-    while i < words.len() {
-        words[i] = 0;
-        i += 1;
-    }
-}
-
 // One shard's 2,112 words, where they are all 0: its head words, and an active replica for each member.
 fn write_shard(words: &mut [u64], sequencer: u64, members: u64, orderer: u64)
     requires { (words.old ≡ replicate shard_words 0) × (size members ≤ 4) }
@@ -34,12 +23,8 @@ fn write_shard(words: &mut [u64], sequencer: u64, members: u64, orderer: u64)
         members,
         orderer,
     };
-    let place = first.place;
-    let size = first.size() as usize;
-    let mut k = 0;
-    while k < size {
-        words[place + k * REPLICA_WORDS] = ACTIVE;
-        k += 1;
+    for k in 0..first.size() as usize {
+        words[first.place + k * REPLICA_WORDS] = ACTIVE;
     }
 }
 
@@ -48,13 +33,11 @@ pub fn write_shards(state: &mut [u64], plan: &[u64], shards: usize)
     requires { (state.old ≡ replicate (shards * shard_words) 0) × Planned shards plan.now }
     ensures { state.new ≡ initial_state shards plan.now }
 {
-    let mut z = 0;
-    while z < shards {
+    for z in 0..shards {
         let from = z * SHARD_WORDS;
         let end = from + SHARD_WORDS;
         let at = SHARD_PLAN * z;
         write_shard(&mut state[from..end], plan[at], plan[at + 1], plan[at + 2]);
-        z += 1;
     }
 }
 
@@ -63,6 +46,6 @@ pub fn write_state(state: &mut [u64], plan: &[u64], shards: usize)
     requires { (length state.old ≡ shards * shard_words) × Planned shards plan.now }
     ensures { state.new ≡ initial_state shards plan.now }
 {
-    clear(state);
+    state.fill(0);
     write_shards(state, plan, shards);
 }

@@ -9,15 +9,14 @@ use wellformed::sequencer::all_differ;
 pub const SHARD_PLAN: usize = 3;
 
 // Whether the three words of shard z are proper.
+#[tactic(auto, unfolding(model::specs::Setup::is_planned_shard, model::specs::Setup::plan_sequencer, model::specs::Setup::plan_members, model::specs::Setup::plan_orderer))]
 fn is_planned_shard(plan: &[u64], shards: usize, z: usize) -> bool
     requires { (z < shards) × (length plan.now ≡ 3 * shards) }
     ensures { result ≡ is_planned_shard shards plan.now z }
 {
     let at = SHARD_PLAN * z;
-    if !wellformed::shard::is_sequencer(shards, z, plan[at]) {
-        return false;
-    }
-    wellformed_entries::members::is_configuration(plan[at + 1], plan[at + 2])
+    wellformed::shard::is_sequencer(shards, z, plan[at])
+        && wellformed_entries::members::is_configuration(plan[at + 1], plan[at + 2])
 }
 
 // Whether the words of all shards are proper.
@@ -25,26 +24,16 @@ fn all_planned(plan: &[u64], shards: usize) -> bool
     requires { length plan.now ≡ 3 * shards }
     ensures { result ≡ all_below shards (is_planned_shard shards plan.now) }
 {
-    let mut z = 0;
-    while z < shards {
-        if !is_planned_shard(plan, shards, z) {
-            return false;
-        }
-        z += 1;
-    }
-    true
+    (0..shards).all(|z| is_planned_shard(plan, shards, z))
 }
 
 // Whether a plan is one for `shards` shards.
+#[tactic(auto, using(crate::proofs::InitialPlan::sequencers_differ), unfolding(model::specs::Setup::is_plan))]
 pub fn is_plan(plan: &[u64], shards: usize) -> bool
     requires { shards ≤ 8 }
     ensures { result ≡ is_plan shards plan.now }
 {
-    if plan.len() != SHARD_PLAN * shards {
-        return false;
-    }
-    if !all_planned(plan, shards) {
-        return false;
-    }
-    all_differ(plan, SHARD_PLAN, shards)
+    plan.len() == SHARD_PLAN * shards
+        && all_planned(plan, shards)
+        && all_differ(plan, SHARD_PLAN, shards)
 }

@@ -2,6 +2,5 @@
 pub mod Stable
 pub mod Longest
 pub mod Picking
-pub mod Copying
 pub mod Listings
 pub mod HistorySizes

@@ -1,43 +1,40 @@
 -- Entries copied to an output: what is answered and left, by the test of the output's room.
-use Rattle.std.specs.Prelude.{Ok, Err}
-use Rattle.types.specs.declared.rejection.Rejection.TheVariants.{OutputLength}
-use Rattle.types.specs.Rejections.{Written, answer_count, answer_number}
 use Prim.Native.Nat.{ℕ, ◌+◌, ◌-◌, ◌≤◌, ◌<◌}
-use native.Mathlib.Omega.{arith}
-use mathlib.Core.Path.{◌≡◌, refl, sym, ap, ◌∙◌}
-use mathlib.Core.Bool.{Bool, true, false}
-use mathlib.Core.List.{List, ◌++◌}
-use lib.Dec.{eqb}
+use mathlib.Core.Path.{◌≡◌, refl}
+use mathlib.Core.Bool.{true}
+use mathlib.Core.List.{List, [], ◌∷◌, ◌++◌}
+use lib.Dec.{ltb}
 use lib.ListN.{length, get_or, take, drop}
-use borrow.Author.Tests.{le-leb, lt-leb, ne_eqb, eqb-true}
+use borrow.Author.Tests.{le-leb, lt-leb}
 use Rattle.model.specs.Checks.{first_of}
 use Rattle.model.specs.Results.{count_beside}
+use Rattle.std.specs.Prelude.{Ok, Err}
+use Rattle.types.specs.declared.rejection.Rejection.{Rejection}
+use Rattle.types.specs.declared.rejection.Rejection.TheVariants.{OutputLength}
+use Rattle.types.specs.Rejections.{Written, rejection_number, answered, answer_number, answer_count}
+use Rattle.types.proofs.Rejections.{number_not_0, rejected_answer}
+use Rattle.model.proofs.Results.{first_below, counted}
 use Rattle.stable_entries.specs.Listing.{has_room, listing_of, after_listing_of}
 use Rattle.stable_entries.specs.StableEntries.{entries_at, HasEntries, copying_rejection, copied_count, copying, after_copying}
 use Rattle.stable_entries.proofs.Stable.{entries_part, entries_length}
 
 -- a rejection is told, and leaves the output
-pub rejects : (k : ℕ) (l out : List ℕ) {rejection : ℕ} → (k ≡ 0 → ⊥) → rejection ≡ k
-    → (Err k ≡ listing_of rejection l) × (out ≡ after_listing_of rejection l out)
+pub rejects : (r : Rejection) (l out : List ℕ) {rejection : ℕ} → rejection ≡ rejection_number r
+    → (Err r ≡ listing_of rejection l) × (out ≡ after_listing_of rejection l out)
 unfolding listing_of after_listing_of
-rejects k l out n e = (simp (e, ne_eqb k 0 n), simp (e, ne_eqb k 0 n))
+rejects r l out e = (rw e (rejected_answer r (length l)), rw (e, number_not_0 r))
 
 -- an answer, told by its number and its count too
-pub told : {r : Written} {v : List ℕ} (k : ℕ) (l out : List ℕ) → r ≡ listing_of k l → v ≡ after_listing_of k l out
+pub told : {r : Written} {v : List ℕ} (k : ℕ) (l out : List ℕ) → ltb k 25 ≡ true → r ≡ listing_of k l → v ≡ after_listing_of k l out
     → (answer_number r ≡ k) × ((answer_count r ≡ count_beside k l) × ((r ≡ listing_of k l) × (v ≡ after_listing_of k l out)))
-unfolding listing_of answer_count count_beside
-told {r} {v} k l out e f = go (eqb k 0) refl
-  where
-    go : (t : Bool) → eqb k 0 ≡ t
-        → (answer_number r ≡ k) × ((answer_count r ≡ count_beside k l) × ((r ≡ listing_of k l) × (v ≡ after_listing_of k l out)))
-    go true q = (ap answer_number e ∙ rw q (sym (eqb-true k 0 q)), (ap answer_count e ∙ rw q, (e, f)))
-    go false q = (ap answer_number e ∙ rw q, (ap answer_count e ∙ rw q, (e, f)))
+unfolding listing_of
+told k l out h e f = let c = counted k l h e in (c.0, (c.1, (e, f)))
 
 pub copied : {r : Written} {v : List ℕ} (w : List ℕ) (p : ℕ) (out : List ℕ) → r ≡ copying w p out → v ≡ after_copying w p out
     → (answer_number r ≡ copying_rejection w p out)
     × ((answer_count r ≡ copied_count w p out) × ((r ≡ copying w p out) × (v ≡ after_copying w p out)))
-unfolding copying after_copying copied_count
-copied w p out e f = told (copying_rejection w p out) (entries_at w p) out e f
+unfolding copying after_copying copied_count copying_rejection has_room
+copied w p out e f = told (copying_rejection w p out) (entries_at w p) out (first_below (has_room (entries_at w p) out ∷ []) refl) e f
 
 module _ (w : List ℕ) (p : ℕ) (out : List ℕ) (h : HasEntries w p) where
   -- how many entries there are
@@ -49,12 +46,12 @@ module _ (w : List ℕ) (p : ℕ) (out : List ℕ) (h : HasEntries w p) where
 
   pub rejects_room : length out < count → (Err OutputLength ≡ copying w p out) × (out ≡ after_copying w p out)
   unfolding copying after_copying copying_rejection first_of has_room
-  rejects_room r = rejects 8 (entries_at w p) out (λ e. omega arith) (rw (many, lt-leb count (length out) r))
+  rejects_room r = rejects OutputLength (entries_at w p) out (rw (many, lt-leb count (length out) r))
 
-  -- the words that the loop copies
+  -- the words that are copied
   abbrev words : List ℕ
   words = take (p + 8 + count - (p + 8)) (drop (p + 8) w)
 
-  pub copies : count ≤ length out → (Ok count ≡ copying w p out) × (words ++ drop (length words) out ≡ after_copying w p out)
-  unfolding copying after_copying copying_rejection listing_of after_listing_of first_of has_room
-  copies r = (simp (many, le-leb count (length out) r), simp (entries_part w p, many, le-leb count (length out) r))
+  pub copies : count ≤ length out → (l : List ℕ) → l ≡ words → (Ok count ≡ copying w p out) × (l ++ drop count out ≡ after_copying w p out)
+  unfolding copying after_copying copying_rejection listing_of after_listing_of answered first_of has_room
+  copies r l e = (simp (many, le-leb count (length out) r), simp (e, entries_part w p, many, le-leb count (length out) r))

@@ -12,13 +12,12 @@ use Rattle.stable_entries.specs.Pick.{longest_place}
 pub record Picking (w : List ℕ) (z best most n : ℕ) : Type 0 where
   pub last : ℕ
   pub next : n ≡ suc last
-  pub range : n ≤ 32
   pub picked : best ≡ longest_place w z last
   pub stable : most ≡ get_or w (best + 2) 0
 
 pub start : (w : List ℕ) (z : ℕ) → Picking w z (z * 2112 + 64) (get_or w (z * 2112 + 64 + 2) 0) 1
 unfolding longest_place place
-start w z = record { last = 0; next = refl; range = omega arith; picked = omega arith; stable = refl }
+start w z = record { last = 0; next = refl; picked = omega arith; stable = refl }
 
 module _ (w : List ℕ) (z m : ℕ) where
   -- one more replica: it is picked where its stable prefix is longer
@@ -34,7 +33,7 @@ place_next : (z m n : ℕ) → n ≡ suc m → z * 2112 + 64 + n * 64 ≡ place 
 unfolding place
 place_next z m n e = omega arith
 
-module _ {w : List ℕ} {z best most n : ℕ} (p : Picking w z best most n) (more : n < 32) where
+module _ {w : List ℕ} {z best most n : ℕ} (p : Picking w z best most n) where
   pub turn_longer : most < get_or w (z * 2112 + 64 + n * 64 + 2) 0
       → Picking w z (z * 2112 + 64 + n * 64) (get_or w (z * 2112 + 64 + n * 64 + 2) 0) (n + 1)
   turn_longer h =
@@ -42,7 +41,6 @@ module _ {w : List ℕ} {z best most n : ℕ} (p : Picking w z best most n) (mor
       record {
         last = n;
         next = omega arith;
-        range = omega arith;
         picked = e ∙ longer_picked w z p.last (rw (p.stable, p.picked, e) at h) ∙ ap (longest_place w z) (sym p.next);
         stable = refl;
       }
@@ -53,10 +51,9 @@ module _ {w : List ℕ} {z best most n : ℕ} (p : Picking w z best most n) (mor
       record {
         last = n;
         next = omega arith;
-        range = omega arith;
         picked = p.picked ∙ other_kept w z p.last (rw (p.stable, p.picked, e) at h) ∙ ap (longest_place w z) (sym p.next);
         stable = p.stable;
       }
 
-pub end : {w : List ℕ} {z best most n : ℕ} → Picking w z best most n → 32 ≤ n → best ≡ longest_place w z 31
-end {w} {z} p h = p.picked ∙ ap (longest_place w z) (omega (arith, p.next, p.range))
+pub end : {w : List ℕ} {z best most n : ℕ} → Picking w z best most n → n ≡ 32 → best ≡ longest_place w z 31
+end {w} {z} p h = p.picked ∙ ap (longest_place w z) (omega (arith, p.next))

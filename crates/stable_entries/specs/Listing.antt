@@ -1,6 +1,5 @@
 -- A list of entries that is copied to an output: what the copying functions answer and leave.
-use Rattle.std.specs.Prelude.{Ok, Err}
-use Rattle.types.specs.Rejections.{Written}
+use Rattle.types.specs.Rejections.{Written, answered}
 use Rattle.std.specs.Prelude.{ℕ, cond, List, ◌++◌, leb, eqb, length, drop}
 use Rattle.model.specs.Checks.{Check, ◌or_else◌}
 
@@ -10,17 +9,8 @@ has_room l out = leb (length l) (length out) or_else 8
 
 -- how many entries the list has, or the rejection
 unfoldable pub listing_of : ℕ → List ℕ → Written
-listing_of rejection l = cond (eqb rejection 0) (Ok (length l)) (Err rejection)
+listing_of rejection l = answered rejection (length l)
 
 -- the entries, and what lies past them: "Any lent output keeps what lies past the part written"; a rejection leaves the output untouched
 unfoldable pub after_listing_of : ℕ → List ℕ → List ℕ → List ℕ
 after_listing_of rejection l out = cond (eqb rejection 0) (l ++ drop (length l) out) out
-
--- document 01's number and value for each case of the answer
-unfoldable pub answer_number : Written → ℕ
-answer_number (Ok n) = 0
-answer_number (Err r) = r
-
-unfoldable pub answer_count : Written → ℕ
-answer_count (Ok n) = n
-answer_count (Err r) = 0

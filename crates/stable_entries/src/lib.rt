@@ -4,10 +4,3 @@
 
 pub mod copy;
 pub mod pick;
-
-// How many entries were copied, or the rejection.
-#[derive(Clone, Copy)]
-pub enum Listing {
-    Entries(usize),
-    Rejected(u64),
-}

@@ -4,6 +4,9 @@ ghost use Rattle.stable_entries.specs.Pick.{longest_place, OfShard};
 
 use types::layout::{HEAD_WORDS, REPLICA_WORDS, SHARD_WORDS, STABLE};
 
+// So many replicas have a place in a shard's words.
+const REPLICAS: usize = 32;
+
 // The place of the replica with the longest stable prefix; of equally long ones, the lowest index, then the lowest replica.
 pub fn longest(state: &[u64], shard: u64) -> usize
     requires { OfShard state.now shard }
@@ -12,15 +15,13 @@ pub fn longest(state: &[u64], shard: u64) -> usize
     let first = (shard as usize) * SHARD_WORDS + HEAD_WORDS;
     let mut best = first;
     let mut most = state[first + STABLE];
-    let mut n = 1;
-    while n < 32 {
+    for n in 1..REPLICAS {
         let at = first + n * REPLICA_WORDS;
         let stable = state[at + STABLE];
         if most < stable {
             best = at;
             most = stable;
         }
-        n += 1;
     }
     best
 }

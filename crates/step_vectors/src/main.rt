@@ -1,152 +1,106 @@
 // Takes step vectors through `machine::step` and compares each answer, and a checksum of the state after it, with what is expected.
 // Standard input has them as numbers in groups of seven bits, highest first, top bit on all bytes but the last: how many vectors, and
-// for each the state's length, the step, the answer, the checksum, and the words that are not 0 as index and value.
+// for each the state's length, the step, the answer, the checksum, and the words that are not 0: how many, and index and value of each.
 
 #![tactic(auto)]
-
-ghost use Rattle.std.specs.Prelude.{◌≤◌};
 
 use std::io;
 use std::io::Read;
 use types::step::Step;
 
-// A byte as a wider number.
-fn wide(x: u8) -> u64 {
-    x as u64
-}
+// The bits of a number in one byte, and the top bit of all its bytes but the last.
+const GROUP_BITS: u32 = 7;
+
+const MORE: u8 = 1 << GROUP_BITS;
+
+// The most bytes of a number.
+const MOST_GROUPS: usize = 10;
+
+// FNV-1a of 64 bits: its prime, 2^40 + 435, and what it begins with.
+const FNV_PRIME: u64 = 1099511628211;
+
+const FNV_BASIS: u64 = 14695981039346656037;
+
+// The room for a state. A vector with a longer one counts as one that differs.
+const SPACE_WORDS: usize = 40000;
 
 // One byte of the input, 0 at its end and where it cannot be read.
-fn byte<R: Read>(input: &mut R) -> u64 {
+fn byte<R: Read>(input: &mut R) -> u8 {
     let mut b = [0u8; 1];
     match input.read(&mut b) {
-        Ok(_) => wide(b[0]),
+        Ok(_) => b[0],
         Err(_) => 0,
     }
 }
 
 // One number of the input.
 fn number<R: Read>(input: &mut R) -> u64 {
-    let mut v: u64 = 0;
-    let mut n: u64 = 0;
-    while n < 10 {
+    let mut v = 0;
+    for _ in 0..MOST_GROUPS {
         let b = byte(input);
-        v = v % 144115188075855872 * 128 + b % 128;
-        if b < 128 {
-            return v;
+        v = v << GROUP_BITS | u64::from(b % MORE);
+        if b < MORE {
+            break;
         }
-        n += 1;
     }
     v
 }
 
-// A product with the prime of FNV-1a, 2^40 + 435, modulo 2^64.
-fn times_prime(h: u64) -> u64 {
-    let low = h % 4294967296 * 435;
-    let high = h / 4294967296 * 435 % 4294967296 * 4294967296;
-    let top = h % 16777216 * 1099511627776;
-    low.wrapping_add(high).wrapping_add(top)
-}
-
-// One word joins a checksum, lowest byte first.
-fn joined(h: u64, word: u64) -> u64 {
-    let mut sum = h;
-    let mut w = word;
-    let mut k: u64 = 0;
-    while k < 8 {
-        sum = times_prime(sum ^ (w % 256));
-        w = w / 256;
-        k += 1;
-    }
-    sum
-}
-
-// FNV-1a of 64 bits over a state's words.
-fn checksum(state: &[u64]) -> u64 {
-    let mut h: u64 = 14695981039346656037;
-    let mut i = 0;
-    while i < state.len() {
-        h = joined(h, state[i]);
-        i += 1;
-    }
-    h
-}
-
-// All words 0.
-fn clear(space: &mut [u64]) {
-    let mut i = 0;
-    while i < space.len() {
-        space[i] = 0;
-        i += 1;
+// A step of the input.
+fn step<R: Read>(input: &mut R) -> Step {
+    Step {
+        kind: number(input),
+        a: number(input),
+        b: number(input),
+        c: number(input),
+        d: number(input),
     }
 }
 
-// One word of a state, where it has a place.
-fn put(space: &mut [u64], at: usize, v: u64) {
-    if at < space.len() {
-        space[at] = v;
-    }
-}
-
-// The words of a vector that are not 0.
-fn fill<R: Read>(input: &mut R, space: &mut [u64], count: u64) {
-    let mut k: u64 = 0;
-    while k < count {
+// The words of a state: all 0 but for those of the input. One with no place in it is left out.
+fn fill<R: Read>(input: &mut R, space: &mut [u64]) {
+    space.fill(0);
+    for _ in 0..number(input) {
         let at = number(input) as usize;
         let v = number(input);
-        put(space, at, v);
-        k += 1;
+        if let Some(word) = space.get_mut(at) {
+            *word = v;
+        }
     }
 }
 
-// One step on a state: whether answer and checksum are as expected.
-fn agrees(state: &mut [u64], s: Step, answer: u64, check: u64) -> bool {
-    let got = machine::step(state, s);
-    if got != answer {
-        return false;
-    }
-    checksum(state) == check
+// One byte joins a checksum.
+fn joined(sum: u64, byte: u8) -> u64 {
+    (sum ^ u64::from(byte)).wrapping_mul(FNV_PRIME)
 }
 
-// One vector, on a state of `len` words: 0 where it is as expected, else 1.
-fn differs<R: Read>(input: &mut R, space: &mut [u64], len: usize) -> u64
-    ensures { result ≤ 1 }
-{
-    let kind = number(input);
-    let a = number(input);
-    let b = number(input);
-    let c = number(input);
-    let d = number(input);
+// FNV-1a over a state's words, the lowest byte of each first.
+fn checksum(state: &[u64]) -> u64 {
+    state
+        .iter()
+        .flat_map(|word| word.to_le_bytes())
+        .fold(FNV_BASIS, joined)
+}
+
+// One vector: whether its answer and the state after it are other than expected.
+fn differs<R: Read>(input: &mut R, space: &mut [u64]) -> bool {
+    let len = number(input) as usize;
+    let s = step(input);
     let answer = number(input);
     let check = number(input);
-    let count = number(input);
-    clear(space);
-    fill(input, space, count);
-    if space.len() < len {
-        return 1;
+    fill(input, space);
+    match space.get_mut(..len) {
+        Some(state) => machine::step(state, s) != answer || checksum(state) != check,
+        None => true,
     }
-    let s = Step { kind, a, b, c, d };
-    if agrees(&mut space[..len], s, answer, check) {
-        return 0;
-    }
-    1
-}
-
-// All vectors: how many differ.
-fn run<R: Read>(input: &mut R, space: &mut [u64], total: u64) -> u64 {
-    let mut n: u64 = 0;
-    let mut differ: u64 = 0;
-    while n < total {
-        let len = number(input) as usize;
-        differ += differs(input, space, len);
-        n += 1;
-    }
-    differ
 }
 
 fn main(rt: HostRuntime) -> io::Result<()> {
     let mut input = rt.stdin();
-    let mut space = [0u64; 40000];
+    let mut space = [0u64; SPACE_WORDS];
     let total = number(&mut input);
-    let differ = run(&mut input, &mut space, total);
+    let differ = (0..total)
+        .filter(|_| differs(&mut input, &mut space))
+        .count();
     println!(rt; "{total} steps, {differ} differ")
 }

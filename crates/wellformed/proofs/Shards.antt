@@ -1,5 +1,5 @@
 -- The test of a shard of a state, as tests of the words where the code reads them.
-use Prim.Native.Nat.{ℕ, ◌+◌, ◌*◌, ◌≤◌, ◌<◌}
+use Prim.Native.Nat.{ℕ, ◌+◌, ◌*◌, ◌-◌, ◌≤◌, ◌<◌}
 use native.Mathlib.Omega.{arith}
 use mathlib.Core.Path.{◌≡◌, sym, ap, ◌∙◌}
 use mathlib.Core.Bool.{true, false, ◌&&◌, and-true, and-false}
@@ -18,15 +18,18 @@ use Rattle.wellformed_configurations.proofs.Configurations.{count_word}
 
 -- the head words past those of the configurations
 abbrev pub rest_words : List ℕ → ℕ → List ℕ
-rest_words w z = take 46 (drop (z * 2112 + 18) w)
+rest_words w z = take (z * 2112 + 18 + 46 - (z * 2112 + 18)) (drop (z * 2112 + 18) w)
 
 module _ (w : List ℕ) (Z z : ℕ) (fits : z * 2112 + 2112 ≤ length w) where
+  cut : z * 2112 + 18 + 46 - (z * 2112 + 18) ≡ 46
+  cut = omega arith
+
   rest_words_lem : all_below 46 (λ i. eqb (head_word w z (18 + i)) 0) ≡ zeros (rest_words w z)
   unfolding head_word head_place
   rest_words_lem =
       alike 46 (λ i. eqb (get_or w (z * 2112 + (18 + i)) 0) 0) (λ i. eqb (get_or w (z * 2112 + 18 + i) 0) 0)
       (λ i h. ap (λ (x : ℕ). eqb (get_or w x 0) 0) (omega arith))
-      ∙ sym (zeros_at 46 (z * 2112 + 18) w (omega arith))
+      ∙ sym (zeros_at 46 (z * 2112 + 18) w (omega arith)) ∙ ap (λ (n : ℕ). zeros (take n (drop (z * 2112 + 18) w))) (sym cut)
 
   shard_words_lem : is_shard w Z z
       ≡ (is_sequencer Z z (get_or w (z * 2112) 0) && leb 1 (count_word w z) && leb (count_word w z) 8

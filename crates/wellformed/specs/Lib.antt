@@ -1,3 +1,3 @@
 -- What the functions of this crate require and answer beyond the definitions of `model`.
 pub mod SpacedWords
-pub mod SevenLengths
+pub mod Checked

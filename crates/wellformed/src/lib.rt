@@ -3,56 +3,49 @@
 #![tactic(auto)]
 
 ghost use Rattle.std.specs.Prelude.{◌≡◌};
-ghost use Rattle.model.specs.Layout.{shards_of};
 ghost use Rattle.model.specs.WellFormed.{well_formed};
-ghost use Rattle.model.specs.Replay.{replay_rejection};
-ghost use Rattle.wellformed.specs.SevenLengths.{chosen};
+ghost use Rattle.wellformed.specs.Checked.{shard_count_of, checked};
 
 use types::layout::SHARD_WORDS;
+use types::rejection::Rejection;
 
 pub mod sequencer;
 pub mod shard;
 
-// A number of shards where a length is theirs, else 0.
-fn shards_of(len: usize, words: usize, shards: usize) -> usize
-    ensures { result ≡ chosen len words shards }
+// A state has so many shards.
+const FEWEST_SHARDS: usize = 2;
+
+const MOST_SHARDS: usize = 8;
+
+// The number of shards of a state of `len` words, or rejection 1. All lengths are compared, without a division and without an early exit: `find` or a
+// `match` takes three times as long where lengths change from call to call.
+pub fn shard_count(len: usize) -> Result<usize, Rejection>
+    ensures { result ≡ shard_count_of len }
 {
-    if len == words { shards } else { 0 }
+    let mut count = None;
+    for shards in FEWEST_SHARDS..=MOST_SHARDS {
+        if len == shards * SHARD_WORDS {
+            count = Some(shards);
+        }
+    }
+    count.ok_or(Rejection::StateLength)
 }
 
-// The number of shards of a state of `len` words, 0 where no state has that length. One of the seven comparisons holds at most, and none is a branch.
-pub fn shard_count(len: usize) -> usize
-    ensures { result ≡ shards_of len }
-{
-    shards_of(len, 4224, 2)
-        + shards_of(len, 6336, 3)
-        + shards_of(len, 8448, 4)
-        + shards_of(len, 10560, 5)
-        + shards_of(len, 12672, 6)
-        + shards_of(len, 14784, 7)
-        + shards_of(len, 16896, 8)
-}
-
-// Whether a state is well-formed.
+// Whether a state is well-formed. Of a length that no state has this says nothing.
 pub fn well_formed(state: &[u64]) -> bool
     ensures { result ≡ well_formed state.now }
 {
-    let shards = shard_count(state.len());
-    if !shard::all_shards(state, shards) {
-        return false;
-    }
-    sequencer::all_differ(state, SHARD_WORDS, shards)
+    let shards = shard_count(state.len()).unwrap_or(0);
+    shard::all_shards(state, shards) && sequencer::all_differ(state, SHARD_WORDS, shards)
 }
 
-// The rejection of a state: 1 for its length, 9 where it is not well-formed, else 0.
-pub fn state_rejection(state: &[u64]) -> u64
-    ensures { result ≡ replay_rejection state.now }
+// The number of shards of a well-formed state, or the rejection: 1 for its length, 9 where it is not well-formed.
+pub fn check(state: &[u64]) -> Result<usize, Rejection>
+    ensures { result ≡ checked state.now }
 {
-    if shard_count(state.len()) == 0 {
-        return 1;
-    }
+    let shards = shard_count(state.len())?;
     if !well_formed(state) {
-        return 9;
+        return Err(Rejection::NotWellFormed);
     }
-    0
+    Ok(shards)
 }

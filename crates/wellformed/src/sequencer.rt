@@ -9,14 +9,7 @@ fn differs_below(words: &[u64], distance: usize, a: usize, q: u64) -> bool
     requires { Spaced words.now distance a }
     ensures { result ≡ all_below a (λ b. not (eqb (get_or words.now (b * distance) 0) q)) }
 {
-    let mut b = 0;
-    while b < a {
-        if words[b * distance] == q {
-            return false;
-        }
-        b += 1;
-    }
-    true
+    (0..a).all(|b| words[b * distance] != q)
 }
 
 // Whether no two of so many words at a distance from each other are the same.
@@ -24,12 +17,5 @@ pub fn all_differ(words: &[u64], distance: usize, shards: usize) -> bool
     requires { Spaced words.now distance shards }
     ensures { result ≡ all_differ shards (λ z. get_or words.now (z * distance) 0) }
 {
-    let mut a = 0;
-    while a < shards {
-        if !differs_below(words, distance, a, words[a * distance]) {
-            return false;
-        }
-        a += 1;
-    }
-    true
+    (0..shards).all(|a| differs_below(words, distance, a, words[a * distance]))
 }

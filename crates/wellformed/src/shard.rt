@@ -9,37 +9,27 @@ use wellformed_configurations::configuration;
 use wellformed_entries::zero::all_zero;
 
 // Whether q may be the sequencer of shard z.
+#[tactic(auto, unfolding(model::specs::WellFormed::is_sequencer))]
 pub fn is_sequencer(shards: usize, z: usize, q: u64) -> bool
     ensures { result ≡ is_sequencer shards z q }
 {
-    if (shards as u64) <= q {
-        return false;
-    }
-    q != (z as u64)
+    q < (shards as u64) && q != (z as u64)
 }
 
 // Whether shard z is well-formed.
+#[tactic(auto, using(crate::proofs::Shards::wrong_sequencer, crate::proofs::Shards::too_few, crate::proofs::Shards::too_many, crate::proofs::Shards::some_rest, crate::proofs::Shards::only_configurations))]
 pub fn is_shard(state: &[u64], shards: usize, z: usize) -> bool
     requires { z * shard_words + shard_words ≤ length state.now }
     ensures { result ≡ is_shard state.now shards z }
 {
     let at = z * SHARD_WORDS;
-    if !is_sequencer(shards, z, state[at]) {
-        return false;
-    }
     let installed = state[at + INSTALLED];
-    if installed < 1 {
-        return false;
-    }
-    if 8 < installed {
-        return false;
-    }
     let first = at + REST;
     let end = first + REST_WORDS;
-    if !all_zero(&state[first..end]) {
-        return false;
-    }
-    configuration::all_configurations(state, shards, z)
+    is_sequencer(shards, z, state[at])
+        && (1..=8).contains(&installed)
+        && all_zero(&state[first..end])
+        && configuration::all_configurations(state, shards, z)
 }
 
 // Whether all shards are well-formed.
@@ -47,12 +37,5 @@ pub fn all_shards(state: &[u64], shards: usize) -> bool
     requires { shards * shard_words ≤ length state.now }
     ensures { result ≡ all_below shards (is_shard state.now shards) }
 {
-    let mut z = 0;
-    while z < shards {
-        if !is_shard(state, shards, z) {
-            return false;
-        }
-        z += 1;
-    }
-    true
+    (0..shards).all(|z| is_shard(state, shards, z))
 }

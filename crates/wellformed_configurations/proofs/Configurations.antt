@@ -156,9 +156,11 @@ module _ (w : List ℕ) (Z z j : ℕ) where
       (λ k h. ap (λ (b : Bool). is_part Z j b (part w (first_place z j + k * 64))) (sym (le-ltb k 0 (omega arith))))
 
   pub no_members : first_place z j + 256 ≤ length w → count_word w z ≤ j → members_word w z j ≡ 0 → orderer_word w z j ≡ 0
-      → zeros (take 256 (drop (first_place z j) w)) ≡ is_configuration_of w Z z j
+      → zeros (take (first_place z j + 256 - first_place z j) (drop (first_place z j) w)) ≡ is_configuration_of w Z z j
   unfolding ones all_below
-  no_members f h m o = rw (not_in_place h, m, o) (none f ∙ sym (and-true _))
+  no_members f h m o =
+      let n : first_place z j + 256 - first_place z j ≡ 256 = omega arith in
+      rw (not_in_place h, m, o) (ap (λ (i : ℕ). zeros (take i (drop (first_place z j) w))) n ∙ none f ∙ sym (and-true _))
 
 -- ---- the configurations before are well-formed, so the one before has few members
 

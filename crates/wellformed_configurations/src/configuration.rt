@@ -23,25 +23,20 @@ fn all_replicas(state: &[u64], shards: usize, j: usize, place: usize, size: usiz
     requires { place + size * part_words ≤ length state.now }
     ensures { result ≡ all_below size (λ k. is_part shards j true (part state.now (place + k * part_words))) }
 {
-    let mut known = place;
-    let mut known_end = place;
-    let mut k = 0;
-    while k < size {
+    let mut known: &[u64] = &[];
+    for k in 0..size {
         let from = place + k * REPLICA_WORDS;
-        let end = from + REPLICA_WORDS;
-        if !replica::is_shape(&state[from..end], j) {
+        let words = &state[from..from + REPLICA_WORDS];
+        if !replica::is_shape(words, j) {
             return false;
         }
-        let first = from + ENTRIES;
-        let last = first + (state[from + LENGTH] as usize);
-        if !replica::is_known(&state[first..last], &state[known..known_end]) {
-            if !each_entry(&state[first..last], shards) {
+        let history = &words[ENTRIES..ENTRIES + (words[LENGTH] as usize)];
+        if !replica::is_known(history, known) {
+            if !each_entry(history, shards) {
                 return false;
             }
-            known = first;
-            known_end = last;
+            known = history;
         }
-        k += 1;
     }
     true
 }
@@ -51,15 +46,13 @@ pub fn all_parts(state: &[u64], shards: usize, j: usize, place: usize, size: usi
     requires { (place + configuration_words ≤ length state.now) × (size ≤ 4) }
     ensures { result ≡ all_below 4 (λ k. is_part shards j (ltb k size) (part state.now (place + k * part_words))) }
 {
-    if !all_replicas(state, shards, j, place, size) {
-        return false;
-    }
     let from = place + size * REPLICA_WORDS;
     let end = place + CONFIGURATION_WORDS;
-    all_zero(&state[from..end])
+    all_replicas(state, shards, j, place, size) && all_zero(&state[from..end])
 }
 
 // Whether configuration j of shard z is well-formed.
+#[tactic(auto, using(crate::proofs::Configurations::improper, crate::proofs::Configurations::wrong_parts, crate::proofs::Configurations::proper_parts, crate::proofs::Configurations::proper_few, crate::proofs::Configurations::some_members, crate::proofs::Configurations::some_orderer, crate::proofs::Configurations::no_members))]
 pub fn is_configuration_of(state: &[u64], shards: usize, z: usize, j: usize) -> bool
     requires shard_words_in_bounds { (z * shard_words + shard_words ≤ length state.now) × (j < 8) }
     requires few_before { FewBefore state.now z j }
@@ -71,25 +64,15 @@ pub fn is_configuration_of(state: &[u64], shards: usize, z: usize, j: usize) -> 
         members: state[at + MEMBERS + j],
         orderer: state[at + ORDERERS + j],
     };
-    let place = c.place;
     if (j as u64) < state[at + INSTALLED] {
-        if !members::is_configuration(c.members, c.orderer) {
-            return false;
-        }
         let size = c.size() as usize;
-        if !all_parts(state, shards, j, place, size) {
-            return false;
-        }
-        return origin::all_origins(state, z, j, size);
+        members::is_configuration(c.members, c.orderer)
+            && all_parts(state, shards, j, c.place, size)
+            && origin::all_origins(state, z, j, size)
+    } else {
+        let end = c.place + CONFIGURATION_WORDS;
+        c.members == 0 && c.orderer == 0 && all_zero(&state[c.place..end])
     }
-    if c.members != 0 {
-        return false;
-    }
-    if c.orderer != 0 {
-        return false;
-    }
-    let end = place + CONFIGURATION_WORDS;
-    all_zero(&state[place..end])
 }
 
 // Whether the eight configurations of shard z are well-formed.
@@ -97,12 +80,10 @@ pub fn all_configurations(state: &[u64], shards: usize, z: usize) -> bool
     requires { z * shard_words + shard_words ≤ length state.now }
     ensures { result ≡ all_below 8 (is_configuration_of state.now shards z) }
 {
-    let mut j = 0;
-    while j < 8 {
+    for j in 0..8 {
         if !is_configuration_of(state, shards, z, j) {
             return false;
         }
-        j += 1;
     }
     true
 }

@@ -1,18 +1,19 @@
 -- Laws of words that are all 0: joined by `|` they are 0, and they are so many zeros.
-use Rattle.std.proofs.Common.{◌≡◌, ℕ, ◌+◌, ◌-◌, ◌≤◌, Bool, true, ◌&&◌, eqb, List, length, get_or, take, drop, replicate, sym, ap, ◌∙◌, ap₂, arith, length-drop, length-take-le, get_or-drop, take_all, get_or-take, ext_get_or, eq-eqb, eqb-true}
+use Rattle.std.proofs.Common.{◌≡◌, ℕ, ◌+◌, ◌-◌, ◌≤◌, true, ◌&&◌, eqb, List, length, get_or, take, drop, replicate, sym, ap, ◌∙◌, ap₂, arith, length-drop, length-take-le, get_or-drop, take_all, get_or-take, ext_get_or, eq-eqb, eqb-true}
 use lib.Bits.{bit_or}
 use lib.ListN.{length-replicate, get_or-replicate}
 use Rattle.model.specs.Tests.{all_below}
 use Rattle.model.proofs.Tests.{all_below_lem, below_all}
-use Rattle.model.proofs.Ranges.{one_more, parted, alike}
+use Rattle.model.proofs.Ranges.{of_below, parted, alike}
 use Rattle.model.proofs.Joined.{or_zero}
+use Rattle.std.specs.List.{fold}
 use Rattle.wellformed_entries.specs.Zeros.{zeros}
+use Rattle.wellformed_entries.proofs.Folds.{all_listed, fold_tested}
 
 -- ---- words joined
 
--- one word more
-pub joined_more : (f : ℕ → ℕ) (i x : ℕ) → eqb x 0 ≡ all_below i (λ k. eqb (f k) 0) → eqb (bit_or x (f i)) 0 ≡ all_below (i + 1) (λ k. eqb (f k) 0)
-joined_more f i x e = or_zero x (f i) ∙ ap (λ (b : Bool). b && eqb (f i) 0) e ∙ sym (one_more i (λ k. eqb (f k) 0))
+pub joined_zeros : (l : List ℕ) → eqb (fold bit_or 0 l) 0 ≡ zeros l
+joined_zeros l = fold_tested bit_or (λ x. eqb x 0) (λ x. eqb x 0) or_zero 0 l ∙ all_listed (λ x. eqb x 0) l ∙ of_below (λ x. eqb x 0) l
 
 -- ---- as many zeros
 

@@ -6,11 +6,5 @@ ghost use Rattle.model.specs.Tests.{all_below};
 pub fn all_zero(words: &[u64]) -> bool
     ensures { result ≡ all_below (length words.now) (λ i. nat_eq (slice_index words.now i) 0) }
 {
-    let mut joined: u64 = 0;
-    let mut i = 0;
-    while i < words.len() {
-        joined = joined | words[i];
-        i += 1;
-    }
-    joined == 0
+    words.iter().fold(0, |joined, word| joined | *word) == 0
 }

@@ -1,14 +1,13 @@
 -- The tests of origins, as tests of the words where the code reads them.
 use Prim.Native.Nat.{ℕ, ◌+◌, ◌-◌, ◌*◌, ◌≤◌, ◌<◌}
 use native.Mathlib.Omega.{arith}
-use native.Mathlib.Decide.{dec_lt}
 use mathlib.Core.Path.{◌≡◌, refl, sym, ap, subst, ◌∙◌}
-use mathlib.Core.Bool.{Bool, true, false, not, ◌&&◌, ◌||◌, or-true}
+use mathlib.Core.Bool.{Bool, true, false, not, ◌&&◌, or-true}
 use mathlib.Core.List.{List}
-use lib.Dec.{ltb, eqb}
+use lib.Dec.{eqb}
 use lib.Count.{ones}
 use lib.ListN.{length, get_or}
-use borrow.Author.Tests.{lt-ltb, le-ltb, eq-eqb, ne_eqb, not-true}
+use borrow.Author.Tests.{eq-eqb, ne_eqb, not-true}
 use Rattle.types.specs.declared.configuration.Configuration.{Configuration}
 use Rattle.model.specs.Tests.{all_below}
 use Rattle.types.specs.Members.{replica_number}
@@ -17,8 +16,8 @@ use Rattle.model.specs.Layout.{place, members, replica_at}
 use Rattle.types.specs.ReplicaPlace.{replica_place}
 use Rattle.model.specs.Inherit.{source}
 use Rattle.model.specs.Origins.{names_member, names_source, is_origin_of}
-use Rattle.model.proofs.Tests.{all_below_lem, below_all}
-use Rattle.model.proofs.Ranges.{same_test, alike}
+use Rattle.model.proofs.Tests.{all_below_lem}
+use Rattle.model.proofs.Ranges.{alike}
 use Rattle.model.proofs.Heads.{members_word_lem}
 use Rattle.model.proofs.Fields.{origin_word_lem, pending_word}
 use Rattle.model.proofs.Members.{number_below}
@@ -55,13 +54,6 @@ module _ (w : List ℕ) (z j k : ℕ) where
   other_origin h e =
       ap (names_source w z j) (sym (origin_word_lem w (place z j k)))
       ∙ sym (has_source w z j (replica_at w (place z j k)) (omega (arith, h)) (pending_word w (place z j k) ∙ ne_eqb (mode_word w z j k) 1 e))
-
--- its mode tells whether it is pending
-pub is_waiting : (w : List ℕ) (at : ℕ) → get_or w at 0 ≡ 1 → false ≡ not (is_pending (replica_at w at))
-is_waiting w at e = rw (pending_word w at, e)
-
-pub is_running : (w : List ℕ) (at : ℕ) → (get_or w at 0 ≡ 1 → ⊥) → true ≡ not (is_pending (replica_at w at))
-is_running w at n = rw (pending_word w at, ne_eqb (get_or w at 0) 1 n)
 
 -- ---- an origin x that names a member of the configuration before
 
@@ -113,17 +105,6 @@ none_at w z j p k e q h =
     not-true _
     (subst (λ (i : ℕ). not (is_pending (replica_at w i)) ≡ true) (ap (λ (i : ℕ). i + k * 64) q ∙ stepped z j k)
     (all_below_lem 4 (λ k. not (is_pending (replica_at w (p + k * 64)))) (sym e) k h))
-
--- the first n of four
-pub first_of_four : (n : ℕ) (f : ℕ → Bool) → n ≤ 4 → all_below 4 (λ k. not (ltb k n) || f k) ≡ all_below n f
-first_of_four n f h =
-    same_test (all_below 4 (λ k. not (ltb k n) || f k)) (all_below n f)
-    (λ e. below_all n f (λ k l. rw (lt-ltb k n l) at (all_below_lem 4 (λ k. not (ltb k n) || f k) e k (omega arith))))
-    (λ e. below_all 4 (λ k. not (ltb k n) || f k) (λ k l. go e k (dec_lt k n)))
-  where
-    go : all_below n f ≡ true → (k : ℕ) → Dec (k < n) → (not (ltb k n) || f k) ≡ true
-    go e k (yes l) = rw (lt-ltb k n l) (all_below_lem n f e k l)
-    go e k (no l) = rw (le-ltb k n (omega arith))
 
 -- then the members before decide
 module _ (w : List ℕ) (z j p : ℕ) (h : 1 ≤ j) (f : FewBefore w z j) (here : p ≡ place z j 0) (own : true ≡ none_pending w p)

@@ -1,3 +1,4 @@
 -- Laws of the words of a replica.
+pub mod FirstWords
 pub mod ReplicaWords
 pub mod Shapes

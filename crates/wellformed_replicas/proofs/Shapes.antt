@@ -55,15 +55,10 @@ module _ (j : ℕ) (p : List ℕ) where
       also s.rest
       also tt)
 
-  -- a test that passes just where the words are so
-  pub decides : (b : Bool) → (b ≡ true → Shaped j p) → (Shaped j p → b ≡ true) → b ≡ is_shape j p
-  decides b f g = same_test b (is_shape j p) (λ e. is_shaped (f e)) (λ e. g (shaped e))
-
 -- without entries nothing but 0 follows the fourth word
-pub no_entries : (p : List ℕ) → length p ≡ 64 → get_or p 1 0 ≡ 0
-    → zeros (take (length p - 4) (drop 4 p)) ≡ (zeros (take 4 (drop 4 p)) && zeros (drop (8 + get_or p 1 0) p))
-no_entries p l e =
-    let eight : 4 + 4 ≡ 8 + get_or p 1 0 = omega (arith, e) in
+pub no_entries : (p : List ℕ) (n : ℕ) → length p ≡ 64 → n ≡ 0 → zeros (take (length p - 4) (drop 4 p)) ≡ (zeros (take 4 (drop 4 p)) && zeros (drop (8 + n) p))
+no_entries p n l e =
+    let eight : 4 + 4 ≡ 8 + n = omega (arith, e) in
     ap zeros (to_end 4 p) ∙ zeros_parted 4 (drop 4 p) (omega (arith, length-drop 4 p, l))
     ∙ ap (λ (m : List ℕ). zeros (take 4 (drop 4 p)) && zeros m) (drop-drop 4 4 p ∙ ap (λ (n : ℕ). drop n p) eight)
 

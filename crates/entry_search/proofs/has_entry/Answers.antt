@@ -1,7 +1,7 @@
--- `entry_search::has_entry` meets its contract.
+-- Answers of `has_entry`.
 use mathlib.Core.Path.{◌∙◌}
-use Rattle.entry_search.proofs.Searches.{like_entry}
+use Rattle.entry_search.proofs.Searches.{contained}
 use Rattle.entry_search.proofs.has_entry.Goals as goal
 
 pub returns : goal.returns
-returns c = c.has_like.ensures ∙ like_entry _ _
+returns c = c.contains.ensures.value ∙ contained _ _

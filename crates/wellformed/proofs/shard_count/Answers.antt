@@ -1,68 +1,36 @@
--- `wellformed::shard_count` meets its contract: at most one of the seven numbers added is not 0.
-use Prim.Native.Nat.{ℕ, ◌≤◌}
+-- Answers of `shard_count`.
+use Prim.Native.Nat.{ℕ, ◌*◌}
 use native.Mathlib.Omega.{arith}
-use mathlib.Core.Path.{◌≡◌}
-use Rattle.wellformed.specs.SevenLengths.{chosen}
-use Rattle.wellformed.proofs.SevenLengths.{chosen_most, seven_in_a_row}
+use mathlib.Core.Path.{◌≡◌, ap, ◌∙◌}
+use Rattle.std.specs.Prelude.{Option}
+use Rattle.std.specs.Option.{ok_or}
+use Rattle.types.specs.declared.rejection.Rejection.TheVariants.{StateLength}
+use Rattle.model.specs.Layout.{shards_of}
+use Rattle.model.proofs.Lengths.{several, shards_most, shards_long, each_length}
+use Rattle.wellformed.specs.Checked.{shard_count_of}
+use Rattle.wellformed.proofs.FoundCount.{found_none, found_here, found_before, found_all}
 use Rattle.wellformed.proofs.shard_count.Goals as goal
+use Rattle.wellformed.proofs.shard_count.Goals.{then-len-shards, else-len-shards}
 
--- a number that is added
-most : (n k Z r : ℕ) → r ≡ chosen n k Z → r ≤ Z
-most n k Z r e = omega (arith, e, chosen_most n k Z)
+pub loop-shards-init : goal.loop-shards-init
+loop-shards-init c = found_none (shards_of c.args.len)
 
-pub overflow_add-result : goal.overflow_add-result
-overflow_add-result c = omega (arith, most _ _ 2 _ c.shards_of.ensures, most _ _ 3 _ c.shards_of-2.ensures)
-
-pub overflow_add-result-2 : goal.overflow_add-result-2
-overflow_add-result-2 c = omega (arith, most _ _ 2 _ c.shards_of.ensures, most _ _ 3 _ c.shards_of-2.ensures, most _ _ 4 _ c.shards_of-3.ensures)
-
-pub overflow_add-result-3 : goal.overflow_add-result-3
-overflow_add-result-3 c =
-    omega (
-      arith,
-      most _ _ 2 _ c.shards_of.ensures,
-      most _ _ 3 _ c.shards_of-2.ensures,
-      most _ _ 4 _ c.shards_of-3.ensures,
-      most _ _ 5 _ c.shards_of-4.ensures,
-    )
-
-pub overflow_add-result-4 : goal.overflow_add-result-4
-overflow_add-result-4 c =
-    omega (
-      arith,
-      most _ _ 2 _ c.shards_of.ensures,
-      most _ _ 3 _ c.shards_of-2.ensures,
-      most _ _ 4 _ c.shards_of-3.ensures,
-      most _ _ 5 _ c.shards_of-4.ensures,
-      most _ _ 6 _ c.shards_of-5.ensures,
-    )
-
-pub overflow_add-result-5 : goal.overflow_add-result-5
-overflow_add-result-5 c =
-    omega (
-      arith,
-      most _ _ 2 _ c.shards_of.ensures,
-      most _ _ 3 _ c.shards_of-2.ensures,
-      most _ _ 4 _ c.shards_of-3.ensures,
-      most _ _ 5 _ c.shards_of-4.ensures,
-      most _ _ 6 _ c.shards_of-5.ensures,
-      most _ _ 7 _ c.shards_of-6.ensures,
-    )
-
-pub overflow_add-result-6 : goal.overflow_add-result-6
-overflow_add-result-6 c =
-    omega (
-      arith,
-      most _ _ 2 _ c.shards_of.ensures,
-      most _ _ 3 _ c.shards_of-2.ensures,
-      most _ _ 4 _ c.shards_of-3.ensures,
-      most _ _ 5 _ c.shards_of-4.ensures,
-      most _ _ 6 _ c.shards_of-5.ensures,
-      most _ _ 7 _ c.shards_of-6.ensures,
-      most _ _ 8 _ c.shards_of-7.ensures,
-    )
+pub loop-shards-preserved : goal.loop-shards-preserved
+loop-shards-preserved c =
+    let l = c.loop-shards in
+    elim c.if-len-shards.branch [
+      | then-len-shards w ↦
+          let found : shards_of c.args.len ≡ l.shards = ap shards_of w.if-len-shards.true ∙ each_length l.shards (omega arith) (omega arith) in
+          w.count-is ∙ found_here (shards_of c.args.len) l.shards (omega arith) found
+      | else-len-shards w ↦
+          let other : shards_of c.args.len ≡ l.shards → ⊥ = λ e. w.if-len-shards.false (shards_long c.args.len (omega (arith, e)) ∙ ap (λ (n : ℕ). n * 2112) e) in
+          w.count-is ∙ l.invariant ∙ found_before (shards_of c.args.len) l.shards other
+    ]
 
 pub returns : goal.returns
+unfolding shard_count_of
 returns c =
-    seven_in_a_row _ c.shards_of.ensures c.shards_of-2.ensures c.shards_of-3.ensures c.shards_of-4.ensures
-    c.shards_of-5.ensures c.shards_of-6.ensures c.shards_of-7.ensures
+    let s = shards_of c.args.len in
+    let all : c.loop-shards.shards ≡ 9 = omega (arith, c.loop-shards-test.false, c.loop-shards.auto.shards-end) in
+    c.ok_or.ensures.value ∙ ap (λ (x : Option ℕ). ok_or x StateLength) c.loop-shards.invariant
+    ∙ found_all s c.loop-shards.shards all (shards_most c.args.len) (several c.args.len)

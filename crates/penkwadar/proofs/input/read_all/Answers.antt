@@ -15,19 +15,12 @@ front_read a k n xs ys within fits =
     ∙ ap (λ l. take a xs ++ take n l) (drop_at (take a xs) (ys ++ after) a (length-take-le a xs within))
     ∙ ap (λ l. take a xs ++ l) (take-append-le n ys after fits))
 
-pub returns-then-not-piece-clause-bytes : goal.returns-then-not-piece-clause-bytes
-returns-then-not-piece-clause-bytes g c =
-    let l = c.loop-turns in
-    let piece = c.read_piece-piece in
-    subst (Consumes _ _) (front_read l.count (length l.buf - l.count) piece.result.count l.buf piece.new.buf l.invariant.1 piece.ensures.within.0)
-    (Consumes-trans _ _ _ _ _ l.invariant.2 piece.ensures.bytes)
-
-pub loop-turns-preserved : goal.loop-turns-preserved
-loop-turns-preserved g c =
-    let l = c.loop-turns in
-    let piece = c.read_piece-piece in (
+pub loop-count-preserved : goal.loop-count-preserved
+loop-count-preserved g c =
+    let l = c.loop-count in
+    let more = c.in_ok-more in (
       search rules,
       search rules,
-      subst (Consumes _ _) (front_read l.count (length l.buf - l.count) piece.result.count l.buf piece.new.buf l.invariant.1 piece.ensures.within.0)
-          (Consumes-trans _ _ _ _ _ l.invariant.2 piece.ensures.bytes),
+      subst (Consumes _ _) (front_read l.count (length l.buf - l.count) more.more l.buf c.read_some.new.buf l.invariant.1 more.ensures.within.0)
+          (Consumes-trans _ _ _ _ _ l.invariant.2 more.ensures.bytes),
     )

@@ -1,29 +1,17 @@
-use Rattle.std.proofs.Common.{◌≡◌, ℕ, ◌+◌, ◌-◌, List, ◌++◌, rules, length, take, drop, sym, ap, ◌∙◌, subst}
-use Rattle.std.proofs.lemmas.List.{take_rest}
+use Rattle.std.proofs.Common.{◌≡◌, ◌+◌, ◌-◌, ◌≤◌, ◌++◌, rules, length, take, drop, sym, ap, ◌∙◌, subst}
+use Rattle.std.proofs.lemmas.List.{take_rest, length-drop}
 use Rattle.std.specs.Io.KnownBytes.{Appends}
 use Rattle.std.proofs.KnownBytes.{Appends-trans}
-use lib.Seq.{take-add}
+use lib.Seq.{take-add, drop-drop}
 use Rattle.penkwadar.proofs.output.write_all.Goals as goal
 
--- a first part, and then the first n bytes of the rest
-front_written : (a n : ℕ) (xs : List ℕ) → take a xs ++ take n (take (length xs - a) (drop a xs)) ≡ take (a + n) xs
-front_written a n xs = ap (λ l. take a xs ++ take n l) (take_rest xs a) ∙ sym (take-add a n xs)
-
-pub returns-then-not-piece-clause-err : goal.returns-then-not-piece-clause-err
-returns-then-not-piece-clause-err g c =
-    let l = c.loop-turns in
-    let piece = c.write_piece-piece in (
-      l.count + piece.result.count,
-      search rules,
-      subst (Appends _ _) (front_written l.count piece.result.count c.args.bytes.now)
-          (Appends-trans _ _ _ _ _ l.invariant.1 piece.ensures.bytes),
-    )
-
-pub loop-turns-preserved : goal.loop-turns-preserved
-loop-turns-preserved g c =
-    let l = c.loop-turns in
-    let piece = c.write_piece-piece in (
-      search rules,
-      subst (Appends _ _) (front_written l.count piece.result.count c.args.bytes.now)
-          (Appends-trans _ _ _ _ _ l.invariant.1 piece.ensures.bytes),
-    )
+pub loop-rest-preserved : goal.loop-rest-preserved
+loop-rest-preserved g c =
+    let bytes = c.args.bytes.now in
+    let rest = c.loop-rest.rest.now in
+    let more = c.in_ok-count.count in
+    let (n, within, split, appended) = c.loop-rest.invariant in
+    let fits : n + more ≤ length bytes = search (rules, length-drop) in
+    let left : take (length rest - more) (drop more rest) ≡ drop (n + more) bytes = take_rest rest more ∙ ap (drop more) split ∙ drop-drop more n bytes in
+    let written : take n bytes ++ take more rest ≡ take (n + more) bytes = ap (λ l. take n bytes ++ take more l) split ∙ sym (take-add n more bytes) in
+    (n + more, fits, left, subst (Appends _ _) written (Appends-trans _ _ _ _ _ appended c.in_ok-count.ensures.bytes))

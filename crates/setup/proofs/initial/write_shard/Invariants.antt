@@ -1,10 +1,6 @@
 -- `setup::initial::write_shard` meets its contract.
-use Prim.Native.Nat.{◌-◌}
 use Rattle.setup.proofs.InitialParts.{Started}
 use Rattle.setup.proofs.initial.write_shard.Given as goal
 
 abbrev pub invariant-loop-k : goal.invariant-loop-k
 invariant-loop-k l = Started l.sequencer l.members l.orderer l.k l.words
-
-abbrev pub decreases-loop-k : goal.decreases-loop-k
-decreases-loop-k l = l.size - l.k

@@ -1,5 +1,6 @@
 -- Answers of `write_shards`.
 use Prim.Native.Nat.{◌*◌}
+use native.Mathlib.Omega.{arith}
 use mathlib.Core.Path.{◌≡◌}
 use lib.ListN.{length}
 use Rattle.model.specs.Setup.{plan_sequencer, plan_members, plan_orderer}
@@ -31,4 +32,4 @@ loop-z-preserved c =
 pub returns : goal.returns
 returns c =
     let long : length c.args.state.now ≡ c.args.shards * 2112 = zeros-length c.args.state.now (c.args.shards * 2112) c.requires.0 in
-    all_written c.args.shards c.args.plan.now c.args.state.now (long) c.loop-z.z c.loop-z.state (search rules) c.loop-z.invariant
+    all_written c.args.shards c.args.plan.now c.args.state.now (long) c.loop-z.z c.loop-z.state (omega arith) c.loop-z.invariant

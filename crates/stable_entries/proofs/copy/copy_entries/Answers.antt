@@ -1,6 +1,5 @@
 -- `stable_entries::copy::copy_entries` meets its contract.
 use native.Mathlib.Omega.{arith}
-use mathlib.Core.Path.{◌∙◌}
 use Rattle.stable_entries.proofs.Listings.{copied, rejects_room, copies}
 use Rattle.stable_entries.proofs.copy.copy_entries.Goals as goal
 
@@ -12,6 +11,6 @@ returns-then-out-count c =
 
 pub returns : goal.returns
 returns c =
-    let e = copies c.args.state.now c.args.place c.args.out.now c.requires (omega (arith, c.if-out-count)) in
-    let t = copied _ _ _ e.0 (c.copy.ensures ∙ e.1) in
+    let e = copies c.args.state.now c.args.place c.args.out.now c.requires (omega (arith, c.if-out-count)) _ c.copy_from_slice.ensures.after in
+    let t = copied _ _ _ e.0 e.1 in
     record { result_value = t.0; result_value_2 = t.1.0; value = t.1.1.0; out_after = t.1.1.1 }

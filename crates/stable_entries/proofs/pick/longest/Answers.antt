@@ -10,11 +10,10 @@ loop-n-init c = start c.args.state.now c.args.shard
 pub loop-n-preserved : goal.loop-n-preserved
 loop-n-preserved c =
     let p = c.loop-n.invariant in
-    let h = c.loop-n-test.true in
     elim c.if-most-stable.branch [
-      | then-most-stable w ↦ rw (w.best-is, w.most-is) (turn_longer p h (omega (arith, w.if-most-stable.true)))
-      | else-most-stable w ↦ rw (w.best-is, w.most-is) (turn_other p h (omega (arith, w.if-most-stable.false)))
+      | then-most-stable w ↦ rw (w.best-is, w.most-is) (turn_longer p (omega (arith, w.if-most-stable.true)))
+      | else-most-stable w ↦ rw (w.best-is, w.most-is) (turn_other p (omega (arith, w.if-most-stable.false)))
     ]
 
 pub returns : goal.returns
-returns c = end c.loop-n.invariant c.loop-n-test.false
+returns c = end c.loop-n.invariant (omega arith)

@@ -1,10 +1,6 @@
 -- `stable_entries::pick::longest` meets its contract.
-use Prim.Native.Nat.{◌-◌}
 use Rattle.stable_entries.proofs.Picking.{Picking}
 use Rattle.stable_entries.proofs.pick.longest.Given as goal
 
 abbrev pub invariant-loop-n : goal.invariant-loop-n
 invariant-loop-n l = Picking l.state l.shard l.best l.most l.n
-
-abbrev pub decreases-loop-n : goal.decreases-loop-n
-decreases-loop-n l = 32 - l.n

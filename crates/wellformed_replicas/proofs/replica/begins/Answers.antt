@@ -1,43 +1,33 @@
 -- Answers of `begins`.
-use Prim.Native.Nat.{◌-◌}
-use native.Mathlib.Omega.{arith}
-use mathlib.Core.Path.{refl, sym, ◌∙◌}
-use lib.Bits.{bit_xor}
-use lib.ListN.{length, get_or}
-use borrow.Author.Tests.{le-leb, lt-leb, ne_eqb}
-use Rattle.model.specs.Tests.{all_below}
-use Rattle.model.proofs.Ranges.{fails, reached, alike}
-use Rattle.model.proofs.Joined.{xor_zero}
+use Rattle.std.proofs.Common.{◌≡◌, ◌∙◌, ◌-◌, ◌<◌, sym, ap, List, ℕ, length, take, arith}
+use Rattle.std.proofs.lemmas.Bool.{lt-leb, false≢true}
+use Rattle.std.specs.List.{slice_get}
+use Rattle.model.proofs.Ranges.{not_passed}
 use Rattle.wellformed_replicas.specs.Shapes.{are_first_of}
-use Rattle.wellformed_entries.proofs.Zeros.{joined_more}
+use Rattle.wellformed_replicas.proofs.FirstWords.{first_same, first_part, same_read}
 use Rattle.wellformed_replicas.proofs.replica.begins.Goals as goal
 
-pub returns-then-others-count : goal.returns-then-others-count
+pub returns-in_default : goal.returns-in_default
 unfolding are_first_of
-returns-then-others-count c = rw (lt-leb _ _ c.if-others-count.true)
+returns-in_default c =
+    let few : length c.args.others.now < length c.args.words.now = grind (arith, c.in_default.ensures.lookup.0) in
+    rw (lt-leb _ _ few)
 
-pub returns-then-words-count : goal.returns-then-words-count
-unfolding are_first_of
-returns-then-words-count c =
-    let words = c.args.words.now in
-    rw (le-leb _ _ c.if-others-count.false) (fails (length words) (length words - 1) _ (omega arith) (sym (ne_eqb _ _ c.if-words-count.true)))
-
-pub loop-i-init : goal.loop-i-init
-unfolding all_below
-loop-i-init c = (omega arith, refl)
-
-pub loop-i-preserved : goal.loop-i-preserved
-loop-i-preserved c =
-    let at = c.loop-i in
+pub returns-then-eq : goal.returns-then-eq
+returns-then-eq c =
     let words = c.args.words.now in
     let others = c.args.others.now in
-    (omega arith, joined_more (λ k. bit_xor (get_or words k 0) (get_or others k 0)) at.i at.joined at.invariant.1)
+    let found = c.in-Some.ensures.lookup.0 in
+    let part : c.in-Some.others.now ≡ take (length words) others = grind (arith, found.2) in
+    c.is_same.ensures ∙ rw part (first_same words others found.1)
 
-pub returns : goal.returns
-unfolding are_first_of
-returns c =
+pub returns-else-eq : goal.returns-else-eq
+returns-else-eq c =
     let words = c.args.words.now in
     let others = c.args.others.now in
-    rw (le-leb _ _ c.if-others-count.false)
-    (reached _ c.loop-i.i _ _ (omega arith) (omega arith) c.loop-i.invariant.1
-    ∙ alike _ _ _ (λ i h. xor_zero (get_or words i 0) (get_or others i 0)))
+    let part : c.in-Some.others.now ≡ take (length words) others = grind (arith, c.in-Some.ensures.lookup.0.2) in
+    c.if-eq.false
+    ∙ not_passed (are_first_of words others)
+    (λ e.
+    let same = ap (λ (l : List ℕ). slice_get l (length l - 1)) (sym (part ∙ first_part words others e)) in
+    false≢true (sym c.if-eq.false ∙ c.eq.ensures ∙ same_read _ _ (c.last.ensures.value ∙ same ∙ sym c.last-2.ensures.value)))
