@@ -3,7 +3,6 @@ use native.Mathlib.Omega.{arith}
 use Rattle.types.specs.declared.kind.Kind.TheVariants.{Install}
 use Rattle.lookup.proofs.KindAnswers.{out_of_range_lem}
 use Rattle.install_steps.proofs.InstallReads.{installed_few}
-use Rattle.install_steps.proofs.Wedges.{first_ready}
 use Rattle.install_steps.proofs.InstallSteps.{known, named, few, nowhere, not_stable, no_issue, is_issue_lem, not_next, not_wedged}
 use Rattle.install_steps.proofs.InstallSteps.{earlier, next_ready, done}
 use Rattle.install_steps.proofs.install.Goals as goal
@@ -53,9 +52,6 @@ returns-then-index-state c =
     let t = not_next c.requires _ _ c.are_numbers.ensures c.if-not-are_numbers.false-raw c.issuer-found.ensures.0
     c.if-found-ne0.false c.if-state-p.false c.is_issue_for.ensures c.if-not-is_issue_for.false-raw c.issue_index-index.ensures c.if-index-state.true in
     record { value = t.0; state_after = t.1 }
-
-pub is_newest_wedged-requires : goal.is_newest_wedged-requires
-is_newest_wedged-requires c = first_ready c.requires.ready
 
 pub returns-then-not-is_newest_wedged : goal.returns-then-not-is_newest_wedged
 returns-then-not-is_newest_wedged c =

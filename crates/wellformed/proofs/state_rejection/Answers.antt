@@ -7,15 +7,9 @@ use Rattle.model.specs.Replay.{replay_rejection}
 use Rattle.model.proofs.Lengths.{several}
 use Rattle.wellformed.proofs.state_rejection.Goals as goal
 
-pub shard_count-requires : goal.shard_count-requires
-shard_count-requires c = tt
-
 pub returns-then-shard_count-eq0 : goal.returns-then-shard_count-eq0
 unfolding replay_rejection is_state_length first_of
 returns-then-shard_count-eq0 c = rw (← c.shard_count.ensures, c.if-shard_count-eq0.true)
-
-pub well_formed-requires : goal.well_formed-requires
-well_formed-requires c = tt
 
 pub returns-then-not-well_formed : goal.returns-then-not-well_formed
 unfolding replay_rejection is_state_length first_of

@@ -5,9 +5,6 @@ use Rattle.model.proofs.Lengths.{shards_fit}
 use Rattle.wellformed.proofs.SpacedSequencers.{sequencers_spaced, sequencers_differ}
 use Rattle.wellformed.proofs.well_formed.Goals as goal
 
-pub shard_count-shards-requires : goal.shard_count-shards-requires
-shard_count-shards-requires c = tt
-
 pub all_shards-requires : goal.all_shards-requires
 all_shards-requires c = rw c.shard_count-shards.ensures (shards_fit _)
 

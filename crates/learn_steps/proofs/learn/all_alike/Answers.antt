@@ -2,15 +2,12 @@
 use native.Mathlib.Omega.{arith}
 use mathlib.Core.Path.{refl}
 use Rattle.model.specs.Tests.{all_below}
-use Rattle.learn_steps.proofs.LearnCompared.{cuts_match, begun, next_entry, next_replica, all_compared, left_short, left_differing}
+use Rattle.learn_steps.proofs.LearnCompared.{begun, next_entry, next_replica, all_compared, left_short, left_differing}
 use Rattle.learn_steps.proofs.learn.all_alike.Goals as goal
 
 pub loop-k-init : goal.loop-k-init
 unfolding all_below
 loop-k-init c = refl
-
-pub agreeing-agreed-requires : goal.agreeing-agreed-requires
-agreeing-agreed-requires c = cuts_match c.args.state.now _ _ _ _ c.requires c.loop-k.k c.loop-k-test.true
 
 pub loop-p-init : goal.loop-p-init
 loop-p-init c = begun c.args.state.now _ _ _ _ c.requires c.loop-k.k c.loop-k-test.true c.agreeing-agreed.ensures
