@@ -18,7 +18,8 @@ loop-shards-preserved c =
           let found : shards_of c.args.len ≡ l.shards = ap shards_of w.if-len-shards.true ∙ each_length l.shards (omega arith) (omega arith) in
           (λ h. omega (arith, found, w.count-is), λ h. omega (arith, found))
       | else-len-shards w ↦
-          let other : shards_of c.args.len ≡ l.shards → ⊥ = λ e. w.if-len-shards.false (shards_long c.args.len (omega (arith, e)) ∙ ap (λ (n : ℕ). n * 2112) e) in
+          let other : shards_of c.args.len ≡ l.shards → ⊥ =
+          λ e. w.if-len-shards.false (shards_long c.args.len (omega (arith, e)) ∙ ap (λ (n : ℕ). n * 2112) e) in
           (λ h. w.count-is ∙ l.invariant.0 (omega (arith, other)), λ h. w.count-is ∙ l.invariant.1 (omega arith))
     ]
 
