@@ -1,11 +1,15 @@
 -- Answers of `shard_count`.
-use Prim.Native.Nat.{ℕ, ◌*◌}
+use Prim.Native.Nat.{ℕ, ◌*◌, ◌≤◌}
 use native.Mathlib.Omega.{arith}
 use mathlib.Core.Path.{◌≡◌, refl, ap, ◌∙◌}
 use Rattle.model.specs.Layout.{shards_of}
 use Rattle.model.proofs.Lengths.{several, shards_most, shards_long, each_length}
 use Rattle.wellformed.proofs.shard_count.Goals as goal
 use Rattle.wellformed.proofs.shard_count.Goals.{then-len-shards, else-len-shards}
+
+-- a length that is not that of Z shards has another number of them
+another : (n Z : ℕ) → 2 ≤ Z → (n ≡ Z * 2112 → ⊥) → shards_of n ≡ Z → ⊥
+another n Z l d e = d (shards_long n (omega (arith, e)) ∙ ap (λ (k : ℕ). k * 2112) e)
 
 pub loop-shards-init : goal.loop-shards-init
 loop-shards-init c = (λ h. grind (arith, several c.args.len), λ h. refl)
@@ -18,8 +22,7 @@ loop-shards-preserved c =
           let found : shards_of c.args.len ≡ l.shards = ap shards_of w.if-len-shards.true ∙ each_length l.shards (omega arith) (omega arith) in
           (λ h. omega (arith, found, w.count-is), λ h. omega (arith, found))
       | else-len-shards w ↦
-          let other : shards_of c.args.len ≡ l.shards → ⊥ =
-          λ e. w.if-len-shards.false (shards_long c.args.len (omega (arith, e)) ∙ ap (λ (n : ℕ). n * 2112) e) in
+          let other = another c.args.len l.shards (omega arith) w.if-len-shards.false in
           (λ h. w.count-is ∙ l.invariant.0 (omega (arith, other)), λ h. w.count-is ∙ l.invariant.1 (omega arith))
     ]
 
