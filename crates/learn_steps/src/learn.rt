@@ -18,26 +18,25 @@ fn all_alike(state: &[u64], first: usize, size: usize, n: usize, own: usize) -> 
     ensures { result ≡ all_alike_at state.now first size n own }
 {
     let own_entries = own + ENTRIES;
-    let mut k = 0;
-    'replicas: while k < size {
-        let q = first + k * REPLICA_WORDS;
-        if state[q + LENGTH] < n as u64 {
-            break 'replicas;
-        }
-        let entries = q + ENTRIES;
-        let mut p = agreeing(
-            &state[entries..entries + n],
-            &state[own_entries..own_entries + n],
-        );
-        while p < n {
-            if state[entries + p] != state[own_entries + p] {
-                break 'replicas;
+    'replicas: {
+        for k in 0..size {
+            let q = first + k * REPLICA_WORDS;
+            if state[q + LENGTH] < n as u64 {
+                break 'replicas false;
             }
-            p += 1;
+            let entries = q + ENTRIES;
+            let agreed = agreeing(
+                &state[entries..entries + n],
+                &state[own_entries..own_entries + n],
+            );
+            for p in agreed..n {
+                if state[entries + p] != state[own_entries + p] {
+                    break 'replicas false;
+                }
+            }
         }
-        k += 1;
+        true
     }
-    k == size
 }
 
 // Learns that n entries of a host's history are stable: the new stable length, or the rejection (7, 10, 11, 12, 18, 19) and the state as it was.
