@@ -1,2 +1,3 @@
 -- Laws that the proofs of the tests share.
 pub mod StepRanges
+pub mod ActingSteps

@@ -14,7 +14,7 @@ use Rattle.types.proofs.KindNumbers.{kind_below}
 
 -- ---- known kinds
 
-known : (k : Kind) → Known (Ok k)
+pub known : (k : Kind) → Known (Ok k)
 unfolding is_kept is_unknown
 known Add = record { not_kept = refl; known = refl }
 known Adopt = record { not_kept = refl; known = refl }
