@@ -2,7 +2,7 @@
 ghost use Rattle.std.specs.Prelude.{◌≡◌};
 ghost use Rattle.word_outputs.specs.ListOutputs.{history_answer, entries_after, entry_count_after, prefix_answer, prefix_after, prefix_count_after};
 
-use word_outputs::words::put_listing;
+use word_outputs::words::put_count;
 
 // Copies a zone's stable history to an output: 0 and the count of its entries, or the rejection and nothing written.
 #[unsafe(no_mangle)]
@@ -19,8 +19,7 @@ pub extern "C" fn penkwadar_stable_history(
     if count.len() < 1 {
         return 8;
     }
-    let listing = histories::history::stable_history(state, zone, out);
-    put_listing(count, listing)
+    put_count(count, histories::history::stable_history(state, zone, out))
 }
 
 // Copies the stable prefix of a box in a configuration to an output: 0 and the count of its entries, or the rejection and nothing written.
@@ -40,6 +39,5 @@ pub extern "C" fn penkwadar_stable_prefix(
     if count.len() < 1 {
         return 8;
     }
-    let listing = histories::prefix::stable_prefix(state, zone, index, host, out);
-    put_listing(count, listing)
+    put_count(count, histories::prefix::stable_prefix(state, zone, index, host, out))
 }

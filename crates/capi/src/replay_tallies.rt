@@ -4,7 +4,7 @@ ghost use Rattle.word_outputs.specs.TallyOutputs.{tally_answer, tally_state_afte
 
 use tallies::tallied::replay_by_value;
 use word_outputs::tally_words::{put_tally, tally_in};
-use word_outputs::words::put_replay;
+use word_outputs::words::{REPORT_WORDS, put_replay};
 
 // A count for each box, and one for the steps that name none.
 const TALLY_WORDS: usize = 17;
@@ -23,7 +23,7 @@ pub extern "C" fn penkwadar_replay_tally(
     ensures report_after { report.new ≡ tally_report_after state.old log.now budget report.old tally.old }
     ensures tally_after { tally.new ≡ tally_words_after state.old log.now budget report.old tally.old }
 {
-    if report.len() < 4 {
+    if report.len() < REPORT_WORDS {
         return 8;
     }
     if tally.len() < TALLY_WORDS {

@@ -2,7 +2,7 @@
 ghost use Rattle.std.specs.Prelude.{◌≡◌};
 ghost use Rattle.word_outputs.specs.Spreadsheets.{csv_answer, csv_after, csv_length_after};
 
-use word_outputs::words::put_writing;
+use word_outputs::words::put_count;
 
 // Writes every zone's stable history as comma-separated text: 0 and its length, or the rejection and nothing written.
 #[unsafe(no_mangle)]
@@ -14,6 +14,5 @@ pub extern "C" fn penkwadar_csv(state: &[u64], out: &mut [u8], count: &mut [u64]
     if count.len() < 1 {
         return 8;
     }
-    let writing = records::csv(state, out);
-    put_writing(count, writing)
+    put_count(count, records::csv(state, out))
 }

@@ -6,6 +6,7 @@ ghost use Rattle.model.specs.Steps.{rejection, after};
 ghost use Rattle.word_outputs.specs.State.{state_words};
 
 use types::layout::SHARD_WORDS;
+use types::rejection::number_of;
 use types::step::Step;
 
 // The length of a state of so many zones, 0 where no state has so many.
@@ -13,13 +14,11 @@ use types::step::Step;
 pub extern "C" fn penkwadar_state_words(zones: u64) -> u64
     ensures { result ≡ state_words zones }
 {
-    if zones < 2 {
-        return 0;
+    if (2..=8).contains(&zones) {
+        SHARD_WORDS as u64 * zones
+    } else {
+        0
     }
-    if 8 < zones {
-        return 0;
-    }
-    SHARD_WORDS as u64 * zones
 }
 
 // Setup: 0 and the whole state written, or the rejection and the state as it was.
@@ -28,7 +27,7 @@ pub extern "C" fn penkwadar_setup(state: &mut [u64], plan: &[u64]) -> u64
     ensures value { result ≡ setup_rejection state.old plan.now }
     ensures state_after { state.new ≡ after_setup state.old plan.now }
 {
-    setup::setup(state, plan)
+    number_of(&setup::setup(state, plan))
 }
 
 // A step: 0 and its effect, or the rejection and the state as it was.
@@ -44,5 +43,5 @@ pub extern "C" fn penkwadar_step(
     ensures value { result ≡ rejection state.old (step_of kind (a ∷ b ∷ c ∷ d ∷ [])) }
     ensures state_after { state.new ≡ after state.old (step_of kind (a ∷ b ∷ c ∷ d ∷ [])) }
 {
-    machine::step(state, Step { kind, a, b, c, d })
+    number_of(&machine::step(state, Step { kind, a, b, c, d }))
 }

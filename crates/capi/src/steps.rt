@@ -3,10 +3,17 @@ ghost use Rattle.std.specs.Prelude.{◌≡◌, [], ◌∷◌};
 ghost use Rattle.model.specs.Log.{step_of};
 ghost use Rattle.word_outputs.specs.StepOutputs.{read_answer, step_after, write_answer, out_after, byte_count_after};
 
-use types::Reading;
 use types::step::Step;
-use word_outputs::usual::{put_long_add, put_short};
-use word_outputs::words::{put_step, put_writing};
+use word_outputs::words::{STEP_WORDS, put_count, put_step};
+
+// What is read where no bytes are left.
+const NO_STEP: Step = Step {
+    kind: 0,
+    a: 0,
+    b: 0,
+    c: 0,
+    d: 0,
+};
 
 // Reads the step at a position of a log: 0 and its words, all 0 at the end, or the rejection and nothing written.
 #[unsafe(no_mangle)]
@@ -14,31 +21,19 @@ pub extern "C" fn penkwadar_read_step(log: &[u8], at: usize, step: &mut [u64]) -
     ensures value { result ≡ read_answer log.now at step.old }
     ensures step_after { step.new ≡ step_after log.now at step.old }
 {
-    if step.len() < 6 {
+    if step.len() < STEP_WORDS {
         return 8;
     }
-    if log.len() <= at {
-        put_step(step, 0, 0, 0, 0, 0, 0);
-        return 0;
-    }
-    if quick_reader::short::is_short(log, at) {
-        put_short(step, log, at);
-        return 0;
-    }
-    if quick_reader::long::is_long_add(log, at) {
-        put_long_add(step, log, at);
-        return 0;
-    }
-    match log_reader::first_step(&log[at..]) {
-        Reading::Step { step: s, next } => {
-            put_step(step, s.kind, s.a, s.b, s.c, s.d, (at + next) as u64);
+    match quick_reader::read_step(log, at) {
+        Ok(Some(reading)) => {
+            put_step(step, reading.step, reading.next as u64);
             0
         }
-        Reading::End => {
-            put_step(step, 0, 0, 0, 0, 0, 0);
+        Ok(None) => {
+            put_step(step, NO_STEP, 0);
             0
         }
-        Reading::Rejected(r) => r,
+        Err(rejection) => u64::from(rejection),
     }
 }
 
@@ -61,6 +56,5 @@ pub extern "C" fn penkwadar_write_step(
     if count.len() < 1 {
         return 8;
     }
-    let writing = log_writer::write_step(out, at, Step { kind, a, b, c, d });
-    put_writing(count, writing)
+    put_count(count, log_writer::write_step(out, at, Step { kind, a, b, c, d }))
 }

@@ -2,7 +2,7 @@
 ghost use Rattle.std.specs.Prelude.{◌≡◌};
 ghost use Rattle.word_outputs.specs.Transcripts.{text_answer, text_after, length_after};
 
-use word_outputs::words::put_writing;
+use word_outputs::words::put_count;
 
 // Writes the program's whole text for a log: 0 and its length, or the rejection and nothing written.
 #[unsafe(no_mangle)]
@@ -14,6 +14,5 @@ pub extern "C" fn penkwadar_transcript(log: &[u8], out: &mut [u8], count: &mut [
     if count.len() < 1 {
         return 8;
     }
-    let writing = transcript::transcript(log, out);
-    put_writing(count, writing)
+    put_count(count, transcript::transcript(log, out))
 }

@@ -4,9 +4,11 @@ use native.Mathlib.Omega.{arith}
 use mathlib.Core.Path.{◌≡◌, refl}
 use mathlib.Core.List.{List, [], ◌++◌}
 use lib.ListN.{length, get_or, drop, drop_of_length-le}
-use lib.Seq.{sets, drop-cons}
-use Rattle.model.proofs.Progress.{progress_first}
-use Rattle.decimal_text.proofs.PartLoops.{InParts, Measured, Written, measure_room, measure_next, write_part_room, write_part_next}
+use lib.Seq.{drop-cons}
+use Rattle.decimal_text.specs.declared.text.Text.{Text}
+use Rattle.decimal_text.specs.Appended.{HasRoom, Appended}
+use Rattle.decimal_text.proofs.Appending.{left_first}
+use Rattle.decimal_text.proofs.PartLoops.{InParts, Measured, PartsAppended, measure_room, measure_next, part_room, part_next}
 use Rattle.csv_rows.specs.Rows.{history_rows, shard_rows}
 use Rattle.csv_rows.specs.Csv.{rows_text}
 use Rattle.csv_rows.specs.Room.{entry_text, history_text, shard_text}
@@ -41,23 +43,20 @@ module _ (z : ℕ) (es : List ℕ) where
       pub row_measured : Measured (length es) (rows_left z es) all (sum + k) (i + 1)
       row_measured = measure_next history_parts t h (rw e at m)
 
-    module _ {first : List ℕ} {at : ℕ} {all out : List ℕ} {end : ℕ} (t : Written (length es) (rows_left z es) first at all out end i) where
-      pub row_fits : i < length es → end + length (entry_text z p (get_or es i 0)) ≤ length out
-      row_fits h = rw e (write_part_room history_parts t h)
+    module _ {first : Text} {all : List ℕ} {t : Text} (a : PartsAppended (length es) (rows_left z es) first all t i) (h : i < length es) where
+      pub row_fits : HasRoom t (entry_text z p (get_or es i 0))
+      row_fits = rw e (part_room history_parts a h)
 
-      pub row_written : {out' : List ℕ} {end' : ℕ} → i < length es
-          → (end' ≡ end + length (entry_text z p (get_or es i 0))) × (out' ≡ sets out end (entry_text z p (get_or es i 0)))
-          → Written (length es) (rows_left z es) first at all out' end' (i + 1)
-      row_written h m = write_part_next history_parts t h (rw e at m)
+      pub row_appended : {u : Text} → Appended t (entry_text z p (get_or es i 0)) u → PartsAppended (length es) (rows_left z es) first all u (i + 1)
+      row_appended m = part_next history_parts a h (rw e at m)
 
   pub history_start : Measured (length es) (rows_left z es) (length (history_text z es)) 0 0
   unfolding history_text
   history_start = record { within = omega arith; same = omega arith }
 
-  pub history_begin : (out : List ℕ) (at : ℕ) → at + length (history_text z es) ≤ length out
-      → Written (length es) (rows_left z es) out at (history_text z es) out at 0
+  pub history_begin : (t : Text) → HasRoom t (history_text z es) → PartsAppended (length es) (rows_left z es) t (history_text z es) t 0
   unfolding history_text
-  history_begin out at r = record { within = omega arith; left = progress_first out at (history_text z es) r }
+  history_begin t r = record { within = omega arith; left = left_first t (history_text z es) r }
 
 -- ---- a state of n shards
 

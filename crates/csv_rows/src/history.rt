@@ -1,10 +1,11 @@
 // The rows of one history.
-ghost use Rattle.std.specs.Prelude.{◌≡◌, ◌+◌, ◌≤◌, length};
-ghost use Rattle.std.proofs.lemmas.List.Edits.{sets};
+ghost use Rattle.std.specs.Prelude.{◌≡◌, ◌≤◌, length};
 ghost use Rattle.model.specs.Replicas.{most_entries};
+ghost use Rattle.decimal_text.specs.Appended.{HasRoom, Appended};
 ghost use Rattle.csv_rows.specs.Room.{history_text};
 
-use crate::row::{row_length, write_row};
+use crate::row::{append_row, row_length};
+use decimal_text::text::Text;
 
 // Places count from 0.
 const FIRST_PLACE: u64 = 0;
@@ -15,25 +16,18 @@ pub fn history_length(shard: u64, entries: &[u64]) -> usize
     ensures { result ≡ length (history_text shard entries.now) }
 {
     let mut sum = 0;
-    let mut i = 0;
-    while i < entries.len() {
-        sum += row_length(shard, FIRST_PLACE + i as u64, entries[i]);
-        i += 1;
+    for (i, entry) in entries.iter().enumerate() {
+        sum += row_length(shard, FIRST_PLACE + i as u64, *entry);
     }
     sum
 }
 
-// Writes the rows of a history, and returns the position after them.
-pub fn write_history(out: &mut [u8], at: usize, shard: u64, entries: &[u64]) -> usize
-    requires { at + length (history_text shard entries.now) ≤ length out.old }
-    ensures value { result ≡ at + length (history_text shard entries.now) }
-    ensures out_after { out.new ≡ sets out.old at (history_text shard entries.now) }
+// Appends the rows of a history.
+pub fn append_history(text: &mut Text<'_>, shard: u64, entries: &[u64])
+    requires { HasRoom text.old (history_text shard entries.now) }
+    ensures { Appended text.old (history_text shard entries.now) text.new }
 {
-    let mut end = at;
-    let mut i = 0;
-    while i < entries.len() {
-        end = write_row(out, end, shard, FIRST_PLACE + i as u64, entries[i]);
-        i += 1;
+    for (i, entry) in entries.iter().enumerate() {
+        append_row(text, shard, FIRST_PLACE + i as u64, *entry);
     }
-    end
 }

@@ -11,11 +11,11 @@ use Rattle.model.specs.Transcript.{digits, decimal}
 
 -- ---- one digit
 
-digits_small : (k n : ℕ) → n < 10 → digits (suc k) n ≡ (48 + n) ∷ []
+pub digits_small : (k n : ℕ) → n < 10 → digits (suc k) n ≡ (48 + n) ∷ []
 unfolding digits
 digits_small k n h = rw (lt-ltb n 10 h)
 
-digits_more : (k n : ℕ) → 10 ≤ n → digits (suc k) n ≡ digits k (n / 10) ++ ((48 + n % 10) ∷ [])
+pub digits_more : (k n : ℕ) → 10 ≤ n → digits (suc k) n ≡ digits k (n / 10) ++ ((48 + n % 10) ∷ [])
 unfolding digits
 digits_more k n h = rw (le-ltb n 10 h)
 
@@ -81,11 +81,3 @@ digits_most (suc k) n =
 pub decimal_most : (n : ℕ) → length (decimal n) ≤ 20
 unfolding decimal
 decimal_most n = digits_most 20 n
-
-pub decimal_least : (n : ℕ) → 1 ≤ length (decimal n)
-unfolding decimal
-decimal_least n =
-    elim (dec_lt n 10) [
-      | yes l ↦ rw (digits_small 19 n l) (omega arith)
-      | no l ↦ rw (digits_more 19 n (omega arith), length-append (digits 19 (n / 10)) ((48 + n % 10) ∷ [])) (omega arith)
-    ]

@@ -1,56 +1,39 @@
--- The last digits of a number: so many there are, they come after the digits of the rest, and they are all where the number is small. Assumes nothing.
-use Prim.Native.Nat.{ℕ, zero, suc, ◌+◌, ◌/◌, ◌%◌, ◌^◌, ◌≤◌, ◌<◌}
-use native.Mathlib.Nat.{div-one, div-div-eq-div-mul, pow-succ'}
+-- A number's last digits, as many as it has, are the number; and they are written from the last to the first. Assumes nothing.
+use Prim.Native.Nat.{ℕ, zero, suc, ◌+◌, ◌-◌, ◌/◌, ◌%◌, ◌<◌, ◌≤◌}
+use native.Mathlib.Decide.{dec_lt}
 use native.Mathlib.Omega.{arith}
-use mathlib.Core.Path.{◌≡◌, refl, sym, ap, ◌∙◌}
-use mathlib.Core.List.{List, [], ◌∷◌, ◌++◌, append_assoc, append-nil}
-use lib.ListN.{length, length-append}
-use Rattle.model.specs.Transcript.{decimal}
+use mathlib.Core.Path.{◌≡◌, refl, sym}
+use mathlib.Core.List.{List, [], ◌∷◌, ◌++◌, append_assoc}
+use lib.ListN.{length, length-append, drop, set}
+use Rattle.std.proofs.lemmas.Grind.{drop-set_at}
+use Rattle.model.specs.Transcript.{digits, decimal}
 use Rattle.decimal_text.specs.LastDigits.{last_digits}
-use Rattle.decimal_text.proofs.DecimalLaws.{decimal_small, decimal_more}
+use Rattle.decimal_text.proofs.DecimalLaws.{digits_small, digits_more}
 
-pub last_length : (k n : ℕ) → length (last_digits k n) ≡ k
+digits_last : (k n : ℕ) → digits k n ≡ last_digits (length (digits k n)) n
+unfolding digits last_digits
+digits_last zero n = refl
+digits_last (suc k) n =
+    elim (dec_lt n 10) [
+      | yes l ↦
+          let same : n % 10 ≡ n = omega arith in
+          rw (digits_small k n l, same)
+      | no l ↦
+          let one : length (digits k (n / 10) ++ ((48 + n % 10) ∷ [])) ≡ suc (length (digits k (n / 10))) = simp length-append (omega arith) in
+          rw (digits_more k n (omega arith), one, ← digits_last k (n / 10))
+    ]
+
+pub decimal_last : (n : ℕ) → decimal n ≡ last_digits (length (decimal n)) n
+unfolding decimal
+decimal_last n = digits_last 20 n
+
+-- what stands before the field's end after one digit more
+pub put_next : (i rest : ℕ) (field : List ℕ) → 0 < i → i ≤ length field
+    → last_digits (i - 1) (rest / 10) ++ drop (i - 1) (set field (i - 1) (48 + rest % 10)) ≡ last_digits i rest ++ drop i field
 unfolding last_digits
-last_length zero n = refl
-last_length (suc k) n = rw (length-append (last_digits k (n / 10)), last_length k (n / 10)) (omega arith)
-
-power_least : (k : ℕ) → 1 ≤ 10 ^ k
-power_least zero = omega arith
-power_least (suc k) = omega (arith, pow-succ' 10 k, power_least k)
-
--- the last k digits come after the digits of the rest
-pub decimal_split : (k n : ℕ) → 10 ^ k ≤ n → n < 2 ^ 64 → decimal n ≡ decimal (n / 10 ^ k) ++ last_digits k n
-unfolding last_digits
-decimal_split zero n h l = rw (div-one n, append-nil (decimal n))
-decimal_split (suc k) n h l =
-    decimal_more n (omega (arith, pow-succ' 10 k, power_least k)) l
-    ∙ ap (λ (d : List ℕ). d ++ ((48 + n % 10) ∷ [])) (decimal_split k (n / 10) (omega (arith, pow-succ' 10 k)) (omega arith))
-    ∙ append_assoc (decimal (n / 10 / 10 ^ k)) (last_digits k (n / 10)) ((48 + n % 10) ∷ [])
-    ∙ ap (λ (r : ℕ). decimal r ++ last_digits (suc k) n) (div-div-eq-div-mul n 10 (10 ^ k) ∙ ap (λ (p : ℕ). n / p) (sym (pow-succ' 10 k)))
-
--- a number from 10 ^ k on, below ten times as much, has k + 1 digits
-pub decimal_all : (k n : ℕ) → 10 ^ k ≤ n → n < 10 ^ suc k → n < 2 ^ 64 → decimal n ≡ last_digits (suc k) n
-unfolding last_digits
-decimal_all zero n h m l = let same : n % 10 ≡ n = omega arith in rw same (decimal_small n m)
-decimal_all (suc k) n h m l =
-    decimal_more n (omega (arith, pow-succ' 10 k, power_least k)) l
-    ∙ ap (λ (d : List ℕ). d ++ ((48 + n % 10) ∷ []))
-    (decimal_all k (n / 10) (omega (arith, pow-succ' 10 k)) (omega (arith, pow-succ' 10 (suc k))) (omega arith))
-
--- the last two of a number's last two
-pub last_pair : (n : ℕ) → last_digits 2 (n % 100) ≡ last_digits 2 n
-unfolding last_digits
-last_pair n =
-    let first : n % 100 / 10 % 10 ≡ n / 10 % 10 = omega arith in
-    let second : n % 100 % 10 ≡ n % 10 = omega arith in
-    rw (first, second)
-
--- four digits, two and two
-pub two_pairs : (n : ℕ) → last_digits 2 (n % 10000 / 100) ++ last_digits 2 (n % 10000 % 100) ≡ last_digits 4 n
-unfolding last_digits
-two_pairs n =
-    let first : n % 10000 / 100 / 10 % 10 ≡ n / 10 / 10 / 10 % 10 = omega arith in
-    let second : n % 10000 / 100 % 10 ≡ n / 10 / 10 % 10 = omega arith in
-    let third : n % 10000 % 100 / 10 % 10 ≡ n / 10 % 10 = omega arith in
-    let fourth : n % 10000 % 100 % 10 ≡ n % 10 = omega arith in
-    rw (first, second, third, fourth)
+put_next zero rest field h l = absurd (omega arith)
+put_next (suc k) rest field h l =
+    let same : suc k - 1 ≡ k = omega arith in
+    let next : k + 1 ≡ suc k = omega arith in
+    rw (same, drop-set_at field k k (48 + rest % 10) refl (omega arith), next)
+    (sym (append_assoc (last_digits k (rest / 10)) ((48 + rest % 10) ∷ []) (drop (suc k) field)))

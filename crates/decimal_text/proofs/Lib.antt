@@ -2,6 +2,5 @@
 pub mod DecimalLaws
 pub mod LastDigits
 pub mod Digits
-pub mod DigitStores
-pub mod ByteStores
 pub mod PartLoops
+pub mod Appending

@@ -1,11 +1,12 @@
--- A text in parts, and the two loops over it: one measures the parts, the other writes them. Assumes nothing.
+-- A text in parts, and the two loops over it: one measures the parts, the other appends them. Assumes nothing.
 use Prim.Native.Nat.{ℕ, suc, ◌+◌, ◌≤◌, ◌<◌}
 use native.Mathlib.Omega.{arith}
 use mathlib.Core.Path.{◌≡◌, ap, ◌∙◌}
 use mathlib.Core.List.{List, [], ◌++◌}
 use lib.ListN.{length, length-append}
-use lib.Seq.{sets}
-use Rattle.model.proofs.Progress.{Progress, progress_room, progress_next, progress_end}
+use Rattle.decimal_text.specs.declared.text.Text.{Text}
+use Rattle.decimal_text.specs.Appended.{HasRoom, Appended}
+use Rattle.decimal_text.proofs.Appending.{Left, left_room, left_next, left_end}
 
 -- n parts; what is left of the text before part i is that part and what is left after it
 pub record InParts (n : ℕ) (part rest : ℕ → List ℕ) : Type 0 where
@@ -17,10 +18,10 @@ pub record Measured (n : ℕ) (rest : ℕ → List ℕ) (all sum i : ℕ) : Type
   pub within : i ≤ n
   pub same : sum + length (rest i) ≡ all
 
--- i parts were written
-pub record Written (n : ℕ) (rest : ℕ → List ℕ) (first : List ℕ) (at : ℕ) (all out : List ℕ) (end i : ℕ) : Type 0 where
+-- i parts were appended
+pub record PartsAppended (n : ℕ) (rest : ℕ → List ℕ) (first : Text) (all : List ℕ) (t : Text) (i : ℕ) : Type 0 where
   pub within : i ≤ n
-  pub left : Progress first at all out end (rest i)
+  pub left : Left first all t (rest i)
 
 module _ {n : ℕ} {part rest : ℕ → List ℕ} (p : InParts n part rest) where
   ends : {i : ℕ} → i ≤ n → n ≤ i → rest i ≡ []
@@ -41,18 +42,17 @@ module _ {n : ℕ} {part rest : ℕ → List ℕ} (p : InParts n part rest) wher
     pub measure_end : n ≤ i → sum ≡ all
     measure_end h = omega (arith, rw (ends t.within h) at t.same)
 
-  module _ {first : List ℕ} {at : ℕ} {all out : List ℕ} {end i : ℕ} (t : Written n rest first at all out end i) where
-    here : i < n → Progress first at all out end (part i ++ rest (suc i))
-    here h = rw (p.next i h) at t.left
+  module _ {first : Text} {all : List ℕ} {t : Text} {i : ℕ} (a : PartsAppended n rest first all t i) where
+    here : i < n → Left first all t (part i ++ rest (suc i))
+    here h = rw (p.next i h) at a.left
 
-    pub write_part_room : i < n → end + length (part i) ≤ length out
-    write_part_room h = progress_room (part i) (rest (suc i)) (here h)
+    pub part_room : i < n → HasRoom t (part i)
+    part_room h = left_room (part i) (rest (suc i)) (here h)
 
-    pub write_part_next : {out' : List ℕ} {end' : ℕ} → i < n → (end' ≡ end + length (part i)) × (out' ≡ sets out end (part i))
-        → Written n rest first at all out' end' (i + 1)
-    write_part_next h e =
+    pub part_next : {u : Text} → i < n → Appended t (part i) u → PartsAppended n rest first all u (i + 1)
+    part_next h e =
         let one : i + 1 ≡ suc i = omega arith in
-        rw one (record { within = omega arith; left = progress_next (part i) (rest (suc i)) (here h) e })
+        rw one (record { within = omega arith; left = left_next (part i) (rest (suc i)) (here h) e })
 
-    pub write_part_end : n ≤ i → (end ≡ at + length all) × (out ≡ sets first at all)
-    write_part_end h = progress_end (rw (ends t.within h) at t.left)
+    pub parts_end : n ≤ i → Appended first all t
+    parts_end h = left_end (rw (ends a.within h) at a.left)

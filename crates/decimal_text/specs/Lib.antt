@@ -1,2 +1,3 @@
 -- What the functions of this crate answer beyond the definitions of `model`.
+pub mod Appended
 pub mod LastDigits

@@ -1,6 +1,6 @@
-// What texts are made of: bytes, and numbers in decimal, written to an output one after the other.
+// What texts are made of: bytes, and numbers in decimal, appended to a lent output.
 
-#![tactic(auto)]
+#![tactic(auto, using(crate::proofs::Appending::appending))]
 
-pub mod bytes;
 pub mod decimal;
+pub mod text;

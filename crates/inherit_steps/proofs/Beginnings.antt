@@ -3,81 +3,79 @@
 use Prim.Native.Nat.{ℕ, ◌≤◌, ◌<◌}
 use native.Mathlib.Omega.{arith}
 use mathlib.Core.Path.{◌≡◌, ◌∙◌}
-use mathlib.Core.Bool.{Bool, true, false, cond, not}
+use mathlib.Core.Bool.{Bool, true, false, cond}
 use mathlib.Core.List.{List, [], ◌∷◌}
 use lib.ListN.{get_or}
 use borrow.Author.Tests.{eq-eqb, ne_eqb}
+use Rattle.std.specs.Prelude.{Ok}
+use Rattle.types.specs.declared.kind.Kind.{Kind}
+use Rattle.types.specs.declared.rejection.Rejection.{Rejection}
+use Rattle.types.specs.declared.rejection.Rejection.TheVariants.{WrongMode, NoSource}
+use Rattle.types.specs.Rejections.{rejection_number}
 use Rattle.model.specs.Checks.{first_of, ◌or_else◌}
-use Rattle.types.specs.Kinds.{NamedKind, names_host}
-use Rattle.types.specs.Rules.{Known, most_fourth}
+use Rattle.types.specs.Rules.{most_fourth}
 use Rattle.types.specs.Members.{has_member}
 use Rattle.model.specs.Replicas.{is_pending}
 use Rattle.model.specs.Layout.{is_installed, members}
 use Rattle.model.specs.Configuration.{configuration, replica_of}
-use Rattle.model.specs.Steps.{are_numbers, kind_checks, kind_effect}
+use Rattle.model.specs.Steps.{kind_checks, kind_effect}
+use Rattle.types.proofs.KindRules.{known}
 use Rattle.model.proofs.WellFormedMembers.{member_proper}
 use Rattle.model.proofs.Fields.{pending_word}
-use Rattle.lookup.specs.declared.Found.{Found}
-use Rattle.lookup.specs.Ready.{ReadyHost}
-use Rattle.lookup.specs.FoundReplicas.{found_of}
-use Rattle.lookup.specs.KindContracts.{ReadyKind, kind_answer, kind_after}
+use Rattle.lookup.specs.Ready.{Ready}
+use Rattle.lookup.specs.KindContracts.{kind_answer, kind_after}
 use Rattle.lookup.proofs.ReadyFields.{formed}
-use Rattle.lookup.proofs.FoundReplicas.{At, at_found, early}
-use Rattle.lookup.proofs.KindAnswers.{rejects, accepts, fourth_small, ready_host}
+use Rattle.lookup.proofs.FoundReplicas.{At}
+use Rattle.lookup.proofs.KindAnswers.{rejects, accepts, fourth_small}
+use Rattle.step_numbers.specs.Acting.{Acting, acting_checks}
+use Rattle.step_numbers.proofs.ActingSteps as acting
 
 -- a kind k whose checks are those of inherit, with the test `other` of the replica to begin from
-pub record Beginning (k : NamedKind) (other : List ℕ → ℕ → ℕ → ℕ → Bool) : Type 0 where
-  pub known : Known k
-  pub acting : names_host k ≡ true
-  pub fourth : most_fourth k ≡ 15
+pub record Beginning (k : Kind) (other : List ℕ → ℕ → ℕ → ℕ → Bool) : Type 0 where
+  pub fourth : most_fourth (Ok k) ≡ 15
   pub checks : (w : List ℕ) (z j h g : ℕ)
-      → kind_checks k w z j h g
+      → kind_checks (Ok k) w z j h g
       ≡ is_installed w z j or_else 10
       ∷ has_member (members w z j) h or_else 11
       ∷ is_pending (replica_of w (configuration w z j) h) or_else 12
       ∷ other w z j g or_else 13
       ∷ []
 
--- the numbers were tested, and are in range
-module _ {k : NamedKind} {other : List ℕ → ℕ → ℕ → ℕ → Bool} (i : Beginning k other) {w : List ℕ} {n z j : ℕ} (p : ReadyKind w n z j) (h g : ℕ)
-    {b : Bool} (test : b ≡ are_numbers k n h g) (e : not b ≡ false) where
-  pub acting_host_lem : ReadyHost w z j h
-  acting_host_lem = ready_host k p h g test e i.known i.acting
+module _ {k : Kind} {other : List ℕ → ℕ → ℕ → ℕ → Bool} (i : Beginning k other) (w : List ℕ) (z j h g : ℕ) where
+  pub nowhere : (x : Rejection) → rejection_number x ≡ first_of (acting_checks k w z j h g)
+      → (rejection_number x ≡ kind_answer (Ok k) w z j h g) × (w ≡ kind_after (Ok k) w z j h g)
+  nowhere x e = acting.nowhere k w z j h g _ (i.checks w z j h g) x e
 
-  -- the other number is a host too
-  pub other_host : g < 16
-  other_host = omega (arith, fourth_small k p h g test e i.known, i.fourth)
+  -- p is the acting host's replica
+  module _ {p : ℕ} (s : Acting k w z j h g p) where
+    at : At w z j h p
+    at = acting.acting_at s
 
-  -- r is the replica that was found
-  module _ {r : Found} (s : r ≡ found_of w z j h) where
-    pub nowhere : (r.answer ≡ 0 → ⊥) → (r.answer ≡ kind_answer k w z j h g) × (w ≡ kind_after k w z j h g)
-    nowhere m = rejects k p h g test e (rw (i.checks w z j h g) (early w z j h r s _ m)) m
+    -- the other number is a host too
+    pub other_host : g < 16
+    other_host = omega (arith, fourth_small (Ok k) w z j h g s.numbers (known k), i.fourth)
 
-    module _ (a : r.answer ≡ 0) where
-      at : At w z j h r.place
-      at = at_found w z j h r s a
+    pub not_pending : (get_or w p 0 ≡ 1 → ⊥) → (12 ≡ kind_answer (Ok k) w z j h g) × (w ≡ kind_after (Ok k) w z j h g)
+    unfolding first_of
+    not_pending m =
+        rejects (Ok k) w z j h g s.numbers WrongMode
+        (rw (i.checks w z j h g, at.there, at.member, at.replica_is, pending_word w p, ne_eqb _ _ m))
 
-      pub not_pending : (get_or w r.place 0 ≡ 1 → ⊥) → (12 ≡ kind_answer k w z j h g) × (w ≡ kind_after k w z j h g)
+    module _ (pending : get_or w p 0 ≡ 1) where
+      -- a pending replica is of no first configuration
+      pub later : Ready w z j → 1 ≤ j
+      later r =
+          ((member_proper (formed r.state) r.shard r.configuration h at.member
+          ).waits (rw at.replica_is (pending_word w p ∙ eq-eqb _ _ pending))).1
+
+      -- all that is left is the last check
+      last : cond (other w z j g) 0 13 ≡ first_of (kind_checks (Ok k) w z j h g)
       unfolding first_of
-      not_pending m =
-          rejects k p h g test e (rw (i.checks w z j h g, at.there, at.member, at.replica_is, pending_word w r.place, ne_eqb _ _ m))
-          (λ q. omega arith)
+      last = rw (i.checks w z j h g, at.there, at.member, at.replica_is, pending_word w p, eq-eqb _ _ pending)
 
-      module _ (pending : get_or w r.place 0 ≡ 1) where
-        -- a pending replica is of no first configuration
-        pub later : 1 ≤ j
-        later =
-            ((member_proper (formed p.ready.state) p.ready.shard p.ready.configuration h at.member
-            ).waits (rw at.replica_is (pending_word w r.place ∙ eq-eqb _ _ pending))).1
+      pub not_other : other w z j g ≡ false → (13 ≡ kind_answer (Ok k) w z j h g) × (w ≡ kind_after (Ok k) w z j h g)
+      not_other f = rejects (Ok k) w z j h g s.numbers NoSource (rw f at last)
 
-        -- all that is left is the last check
-        last : cond (other w z j g) 0 13 ≡ first_of (kind_checks k w z j h g)
-        unfolding first_of
-        last = rw (i.checks w z j h g, at.there, at.member, at.replica_is, pending_word w r.place, eq-eqb _ _ pending)
-
-        pub not_other : other w z j g ≡ false → (13 ≡ kind_answer k w z j h g) × (w ≡ kind_after k w z j h g)
-        not_other f = rejects k p h g test e (rw f at last) (λ q. omega arith)
-
-        pub begins : other w z j g ≡ true → {v : List ℕ} → v ≡ kind_effect k w z j h g
-            → (0 ≡ kind_answer k w z j h g) × (v ≡ kind_after k w z j h g)
-        begins f x = accepts k p h g test e (rw f at last) x
+      pub begins : other w z j g ≡ true → {v : List ℕ} → v ≡ kind_effect (Ok k) w z j h g
+          → (0 ≡ kind_answer (Ok k) w z j h g) × (v ≡ kind_after (Ok k) w z j h g)
+      begins f x = accepts (Ok k) w z j h g s.numbers (rw f at last) x

@@ -3,11 +3,9 @@ ghost use Rattle.std.specs.Prelude.{◌≡◌};
 ghost use Rattle.model.specs.Entries.{is_issue_for};
 
 // Whether an entry is an issue for shard z.
+#[tactic(auto, unfolding(model::specs::Entries::is_issue_for))]
 pub fn is_issue_for(z: usize, e: u64) -> bool
     ensures { result ≡ is_issue_for z e }
 {
-    if !issue_words::is_issue(e) {
-        return false;
-    }
-    issue_words::issue_shard(e) == z as u64
+    issue_words::is_issue(e) && issue_words::issue_shard(e) == z as u64
 }

@@ -3,7 +3,8 @@
 
 #![tactic(auto)]
 
-ghost use Rattle.std.specs.Prelude.{◌≡◌};
+ghost use Rattle.std.specs.Prelude.{◌≡◌, Ok, IfOk};
+ghost use Rattle.types.specs.Rejections.{answer_number};
 ghost use Rattle.model.specs.Layout.{sequencer};
 ghost use Rattle.lookup.specs.Ready.{ReadyHost, Placed};
 ghost use Rattle.lookup.specs.FoundReplicas.{found_of};
@@ -13,63 +14,68 @@ use crate::issues::is_issue_for;
 use crate::next::install_next;
 use crate::wedged::is_newest_wedged;
 use entry_search::is_issued;
-use lookup::Found;
+use lookup::name::Named;
 use step_numbers::are_numbers;
 use types::kind::Kind;
-use types::layout::{ENTRIES, INSTALLED, SHARD_WORDS, STABLE};
+use types::layout::{ENTRIES, INSTALLED, STABLE};
+use types::rejection::Rejection;
 
 mod issues;
 mod next;
 mod wedged;
 
-// The replica of a host in configuration j of the sequencer of shard z.
-fn issuer(state: &[u64], z: usize, j: usize, host: u64) -> Found
-    requires { ReadyHost state.now z j host }
-    ensures { (result ≡ found_of state.now (sequencer state.now z) j host) × Placed state.now result.place }
+// The place of a host's replica in the same configuration of the sequencer of its shard, or the rejection (10 or 11).
+fn issuer(state: &[u64], at: Named, host: u64) -> Result<usize, Rejection>
+    requires { ReadyHost state.now at.z at.j host }
+    ensures value { result ≡ found_of state.now (sequencer state.now at.z) at.j host }
+    ensures placed { IfOk result (λ place. Placed state.now place) }
 {
-    let y = state[z * SHARD_WORDS] as usize;
-    lookup::find(state, y, j, host)
+    let sequencer = Named {
+        z: state[at.head()] as usize,
+        j: at.j,
+    };
+    lookup::find(state, sequencer, host)
 }
 
-// Installs what a place of the issuer's history has: 0 and the next configuration pending, or the rejection (7, 10, 11, 20, 21, 24, 22) and the state as it
-// was.
-pub fn install(state: &mut [u64], shards: usize, z: usize, j: usize, host: u64, place: u64) -> u64
-    requires { ReadyKind state.old shards z j }
-    ensures value { result ≡ kind_answer (Kind.Install) state.old z j host place }
-    ensures state_after { state.new ≡ kind_after (Kind.Install) state.old z j host place }
+// Installs what a place of the issuer's history has: the next configuration pending, or the rejection (7, 10, 11, 20, 21, 24, 22) and the state as it was.
+pub fn install(
+    state: &mut [u64],
+    shards: usize,
+    at: Named,
+    host: u64,
+    place: u64,
+) -> Result<(), Rejection>
+    requires { ReadyKind state.old shards at.z at.j }
+    ensures value { answer_number result ≡ kind_answer (Ok Kind.Install) state.old at.z at.j host place }
+    ensures state_after { state.new ≡ kind_after (Ok Kind.Install) state.old at.z at.j host place }
 {
     if !are_numbers(Kind::Install, shards, host, place) {
-        return 7;
+        return Err(Rejection::OutOfRange);
     }
-    let found = issuer(state, z, j, host);
-    let p = found.place;
-    if found.answer != 0 {
-        return found.answer;
-    }
+    let p = issuer(state, at, host)?;
     if state[p + STABLE] <= place {
-        return 20;
+        return Err(Rejection::NoIssue);
     }
     let from = p + ENTRIES;
-    let at = from + (place as usize);
-    let e = state[at];
-    if !is_issue_for(z, e) {
-        return 20;
+    let end = from + (place as usize);
+    let e = state[end];
+    if !is_issue_for(at.z, e) {
+        return Err(Rejection::NoIssue);
     }
-    let index = issue_words::issue_index(e);
-    if index != state[z * SHARD_WORDS + INSTALLED] + 1 {
-        return 21;
+    if issue_words::issue_index(e) != state[at.head() + INSTALLED] + 1 {
+        return Err(Rejection::WrongIndex);
     }
-    if !is_newest_wedged(state, z) {
-        return 24;
+    if !is_newest_wedged(state, at.z) {
+        return Err(Rejection::NotWedged);
     }
-    if is_issued(&state[from..at], e) {
-        return 22;
+    if is_issued(&state[from..end], e) {
+        return Err(Rejection::IssuedBefore);
     }
     install_next(
         state,
-        z,
+        at.z,
         issue_words::issue_members(e),
         issue_words::issue_orderer(e),
     );
-    0
+    Ok(())
 }

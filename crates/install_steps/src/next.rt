@@ -14,10 +14,8 @@ fn make_pending(state: &mut [u64], first: usize, size: usize)
     requires { Unused state.old first size }
     ensures { state.new ≡ pending_from state.old first size }
 {
-    let mut k = 0;
-    while k < size {
+    for k in 0..size {
         state[first + k * REPLICA_WORDS] = PENDING;
-        k += 1;
     }
 }
 

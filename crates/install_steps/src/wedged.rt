@@ -13,14 +13,7 @@ fn is_wedged(state: &[u64], z: usize, j: usize) -> bool
     ensures { result ≡ is_wedged state.now z j }
 {
     let first = z * SHARD_WORDS + HEAD_WORDS + j * CONFIGURATION_WORDS;
-    let mut k = 0;
-    while k < 4 {
-        if state[first + k * REPLICA_WORDS] == IMMUTABLE {
-            return true;
-        }
-        k += 1;
-    }
-    false
+    (0..4).any(|k| state[first + k * REPLICA_WORDS] == IMMUTABLE)
 }
 
 // Whether a replica of the newest configuration of shard z is immutable.

@@ -2,7 +2,7 @@
 -- Assumes nothing.
 use Prim.Native.Nat.{ℕ, ◌+◌, ◌-◌, ◌*◌, ◌≤◌, ◌<◌}
 use native.Mathlib.Omega.{arith}
-use mathlib.Core.Path.{◌≡◌, refl, sym, ap₂, ◌∙◌}
+use mathlib.Core.Path.{◌≡◌, sym, ap₂, ◌∙◌}
 use mathlib.Core.Bool.{Bool, true, false, and-false}
 use mathlib.Core.List.{List}
 use lib.Dec.{leb, eqb}
@@ -80,15 +80,6 @@ module _ (w : List ℕ) (first size n own : ℕ) where
   pub is_alike : ℕ → Bool
   is_alike k = alike_at w n own (first + k * 64)
 
-  -- the first k replicas are alike
-  pub record Replicas (k : ℕ) : Type 0 where
-    pub most : k ≤ size
-    pub alike : true ≡ all_below k is_alike
-
-  pub no_replica : Replicas 0
-  unfolding all_below
-  no_replica = record { most = omega arith; alike = refl }
-
   -- replica k lies in the state, and its comparison begins where `agreeing` says
   module _ (c : Compared w first size n own) (k : ℕ) (h : k < size) where
     fits : first + k * 64 + 64 ≤ length w
@@ -100,28 +91,21 @@ module _ (w : List ℕ) (first size n own : ℕ) where
     pub begun : {p : ℕ} → p ≡ agreeing (cut w n (first + k * 64)) (cut w n own) → Entries w n own (first + k * 64) p
     begun e = rw e (agreed w n own (first + k * 64) fits c.few)
 
-  pub next_replica : (k p : ℕ) → k < size → Replicas k → n ≤ get_or w (first + k * 64 + 1) 0 → n ≤ p → Entries w n own (first + k * 64) p
-      → Replicas (k + 1)
+  pub next_replica : (k p : ℕ) → true ≡ all_below k is_alike → n ≤ get_or w (first + k * 64 + 1) 0 → n ≤ p → Entries w n own (first + k * 64) p
+      → true ≡ all_below (k + 1) is_alike
   unfolding is_alike
-  next_replica k p h e a l d =
-      record { most = omega arith; alike = more k is_alike e.alike (sym (all_entries w n own (first + k * 64) p a l d)) }
+  next_replica k p e a l d = more k is_alike e (sym (all_entries w n own (first + k * 64) p a l d))
 
-  pub ended : (k : ℕ) → size ≤ k → Replicas k → eqb k size ≡ all_alike_at w first size n own
+  pub all_compared : (k : ℕ) → k ≡ size → true ≡ all_below k is_alike → true ≡ all_alike_at w first size n own
   unfolding all_alike_at is_alike
-  ended k h e =
-      let s : k ≡ size = omega (arith, e.most) in
-      eq-eqb k size s ∙ (rw s at e.alike)
+  all_compared k s e = rw s at e
 
   -- the comparison is left at replica k
-  stopped : (k : ℕ) → k < size → is_alike k ≡ false → eqb k size ≡ all_alike_at w first size n own
+  pub left_short : (k : ℕ) → k < size → get_or w (first + k * 64 + 1) 0 < n → false ≡ all_alike_at w first size n own
   unfolding all_alike_at is_alike
-  stopped k h e = ne_eqb k size (omega arith) ∙ fails size k is_alike h (sym e)
+  left_short k h e = fails size k is_alike h (sym (short w n own (first + k * 64) e))
 
-  pub ended_short : (k : ℕ) → k < size → get_or w (first + k * 64 + 1) 0 < n → eqb k size ≡ all_alike_at w first size n own
-  unfolding is_alike
-  ended_short k h e = stopped k h (short w n own (first + k * 64) e)
-
-  pub ended_differing : (k p : ℕ) → k < size → p < n → (get_or w (first + k * 64 + 8 + p) 0 ≡ get_or w (own + 8 + p) 0 → ⊥)
-      → eqb k size ≡ all_alike_at w first size n own
-  unfolding is_alike
-  ended_differing k p h l d = stopped k h (differs w n own (first + k * 64) p l d)
+  pub left_differing : (k p : ℕ) → k < size → p < n → (get_or w (first + k * 64 + 8 + p) 0 ≡ get_or w (own + 8 + p) 0 → ⊥)
+      → false ≡ all_alike_at w first size n own
+  unfolding all_alike_at is_alike
+  left_differing k p h l d = fails size k is_alike h (sym (differs w n own (first + k * 64) p l d))

@@ -67,11 +67,3 @@ bytes_most s used =
       length_most s.c,
       short_end (leb 4 used) (number_bytes s.d) (length_most s.d),
     ))
-
--- whether n bytes fit, from what they leave
-pub room_left : (at n len : ℕ) {total : ℕ} → total ≡ n → total ≤ len → leb at (len - total) ≡ leb (at + n) len
-room_left at n len {total} e h =
-    elim (dec_le (at + n) len) [
-      | yes l ↦ le-leb at (len - total) (omega (arith, e)) ∙ sym (le-leb (at + n) len l)
-      | no l ↦ lt-leb at (len - total) (omega (arith, e)) ∙ sym (lt-leb (at + n) len (omega arith))
-    ]

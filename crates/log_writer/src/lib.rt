@@ -10,72 +10,53 @@ ghost use Rattle.model.specs.Results.{count_beside};
 ghost use Rattle.log_writer.specs.WriteInParts.{writable, bytes_of, StepRoom};
 
 use numbers::write::{number_length, write_number};
-use types::Writing;
+use numbers::{LIMIT, MOST_BYTES};
 use types::kind::Kind;
+use types::rejection::Rejection;
 use types::step::Step;
 
+// No step takes more bytes: it has a kind and at most four numbers.
+const MOST_STEP_BYTES: usize = 5 * MOST_BYTES;
+
 // Writes a step at a position of an output: the count of bytes, or the rejection, which leaves the output untouched.
-pub fn write_step(out: &mut [u8], at: usize, s: Step) -> Writing
+pub fn write_step(out: &mut [u8], at: usize, s: Step) -> Result<usize, Rejection>
     ensures result_value { answer_number result ≡ write_rejection out.old at s }
     ensures result_value_2 { answer_count result ≡ count_beside (write_rejection out.old at s) (step_bytes s) }
     ensures value { result ≡ writing out.old at s }
     ensures out_after { out.new ≡ after_writing out.old at s }
 {
-    let rules = Kind::of(s.kind).rules();
-    if rules.rejection != 0 {
-        return Writing::Rejected(rules.rejection);
-    }
-    let used = s.used();
+    let used = Kind::try_from(s.kind)?.used();
     if !are_writable(s, used) {
-        return Writing::Rejected(7);
+        return Err(Rejection::OutOfRange);
     }
     if !has_room(out.len(), at, s, used) {
-        return Writing::Rejected(8);
+        return Err(Rejection::OutputLength);
     }
     let end = write_bytes(out, at, s, used);
-    Writing::Bytes(end - at)
+    Ok(end - at)
 }
 
-// 2^35: what five bytes hold is below it.
-const LIMIT: u64 = 34359738368;
-
 // Whether each number can be written, and an unused one is 0.
+#[tactic(auto, unfolding(crate::specs::WriteInParts::writable, model::specs::Writer::is_writable))]
 fn are_writable(s: Step, used: usize) -> bool
     ensures { result ≡ writable s used }
 {
-    if LIMIT <= s.a {
-        return false;
-    }
-    if LIMIT <= s.b {
-        return false;
-    }
-    if LIMIT <= s.c {
-        return false;
-    }
-    if LIMIT <= s.d {
-        return false;
-    }
-    if 4 <= used {
-        return true;
-    }
-    s.d == 0
+    s.a < LIMIT && s.b < LIMIT && s.c < LIMIT && s.d < LIMIT && (4 <= used || s.d == 0)
 }
 
-// Whether an output of a length has room for a step at a position. Each of its five numbers takes at most five bytes.
+// Whether an output of a length has room for a step at a position. Most outputs have it for any step.
 fn has_room(len: usize, at: usize, s: Step, used: usize) -> bool
     requires { s.kind < 128 }
     ensures { result ≡ leb (at + length (bytes_of s used)) len }
 {
-    if 25 <= len {
-        if at <= len - 25 {
-            return true;
-        }
-    }
-    let total = step_length(s, used);
-    if len < total {
-        return false;
-    }
-    at <= len - total
+    fits(len, at, MOST_STEP_BYTES) || fits(len, at, step_length(s, used))
+}
+
+// Whether n bytes fit into an output of a length at a position.
+fn fits(len: usize, at: usize, n: usize) -> bool
+    ensures { result ≡ leb (at + n) len }
+{
+    n <= len && at <= len - n
 }
 
 // How many bytes a step takes. Its kind takes one.

@@ -63,11 +63,11 @@ module _ (log : List ℕ) (at low : ℕ) where
 
   module _ {v w n : ℕ} (t : Turn log at low v w n) where
     -- no byte is left
-    pub turn_ended : n < 5 → length log - at ≤ n → at < length log → Err LogEnds ≡ with_lower low (read_groups 4 false (drop (at + 1) log))
+    pub turn_ended : n < 5 → length log ≤ at + n → Err LogEnds ≡ with_lower low (read_groups 4 false (drop (at + 1) log))
     unfolding read_groups shifted
-    turn_ended h e i =
+    turn_ended h e =
         let left : 5 - n ≡ suc (4 - n) = omega arith in
-        rw (t.same, left, drop_of_length-le log {i = at + n} (omega arith))
+        rw (t.same, left, drop_of_length-le log {i = at + n} e)
 
     -- five bytes were read
     pub turn_full : 5 ≤ n → Err NumberForm ≡ with_lower low (read_groups 4 false (drop (at + 1) log))

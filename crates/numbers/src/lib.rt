@@ -4,3 +4,12 @@
 
 pub mod read;
 pub mod write;
+
+// A number has at most so many bytes.
+pub const MOST_BYTES: usize = 5;
+
+// What they hold, seven bits each, is below it.
+pub const LIMIT: u64 = 1 << 35;
+
+// The bit of a byte that tells that more follow; the bits below it are the number's.
+pub const TOP_BIT: u64 = 128;

@@ -3,23 +3,28 @@ ghost use Rattle.std.specs.Prelude.{◌≡◌, ◌+◌, ◌^◌, ◌≤◌, ◌<
 ghost use Rattle.std.proofs.lemmas.List.Edits.{sets};
 ghost use Rattle.model.specs.Numbers.{number_bytes};
 
-// How many bytes a number takes: the bounds are 2^7, 2^14, 2^21 and 2^28.
+use crate::{MOST_BYTES, TOP_BIT};
+
+// The least numbers that take two bytes, three, four and five.
+const TWO_BYTES: u64 = 1 << 7;
+
+const THREE_BYTES: u64 = 1 << 14;
+
+const FOUR_BYTES: u64 = 1 << 21;
+
+const FIVE_BYTES: u64 = 1 << 28;
+
+// How many bytes a number takes.
 pub fn number_length(n: u64) -> usize
     ensures { result ≡ length (number_bytes n) }
 {
-    if n < 128 {
-        return 1;
+    match n {
+        0..TWO_BYTES => 1,
+        TWO_BYTES..THREE_BYTES => 2,
+        THREE_BYTES..FOUR_BYTES => 3,
+        FOUR_BYTES..FIVE_BYTES => 4,
+        _ => MOST_BYTES,
     }
-    if n < 16384 {
-        return 2;
-    }
-    if n < 2097152 {
-        return 3;
-    }
-    if n < 268435456 {
-        return 4;
-    }
-    5
 }
 
 // Writes a number where the output has room for it, and returns the position after it.
@@ -29,12 +34,12 @@ pub fn write_number(out: &mut [u8], at: usize, n: u64) -> usize
     ensures out_after { out.new ≡ sets out.old at (number_bytes n) }
 {
     let mut rest = n;
-    let mut i = 0;
-    while 128 <= rest {
-        out[at + i] = (128 + rest % 128) as u8;
-        rest /= 128;
-        i += 1;
+    let mut next = at;
+    while TOP_BIT <= rest {
+        out[next] = (TOP_BIT + rest % TOP_BIT) as u8;
+        rest /= TOP_BIT;
+        next += 1;
     }
-    out[at + i] = rest as u8;
-    at + i + 1
+    out[next] = rest as u8;
+    next + 1
 }

@@ -3,19 +3,19 @@ use Rattle.model.specs.Numbers.{valued}
 use Rattle.model.specs.Log.{one_step}
 use Prim.Native.Nat.{ℕ, suc, ◌+◌, ◌≤◌, ◌<◌}
 use native.Mathlib.Omega.{arith}
-use mathlib.Core.Path.{◌≡◌, sym, ap, ◌∙◌}
-use mathlib.Core.Bool.{Bool, true, not}
+use mathlib.Core.Path.{◌≡◌, refl, sym, ap, ◌∙◌}
+use mathlib.Core.Bool.{Bool, true, false, not, ◌&&◌}
 use mathlib.Core.List.{List, [], ◌∷◌, ◌++◌}
 use lib.Bits.{bit_or, or_lt}
 use lib.Dec.{leb, ltb, eqb}
 use lib.ListN.{length, drop, get_or}
 use lib.Seq.{drop-cons, drop-drop}
-use borrow.Author.Tests.{leb-true, le-leb, ltb-true, lt-ltb, eqb-true, eq-eqb, eqb-false, not-true}
+use borrow.Author.Tests.{leb-true, ltb-true, eqb-true, eqb-false, not-true}
 use Rattle.types.specs.Kinds.{kind_of, used_numbers}
 use Rattle.model.specs.Log.{step_of, read_step, read_at}
 use Rattle.model.specs.Numbers.{read_number}
 use Rattle.types.specs.Rules.{fourth_numbers}
-use Rattle.model.proofs.Joined.{left_most, right_most}
+use Rattle.model.proofs.Joined.{or_below}
 use Rattle.model.proofs.Tests.{Passing, all_pass}
 use Rattle.quick_reader.specs.Long.{groups_count, last_byte, entry_bytes, is_long_add_at, long_entry, long_length, long_step}
 use Rattle.numbers.proofs.FirstByte.{read_one, read_one_after}
@@ -26,6 +26,10 @@ use Rattle.log_reader.proofs.StepParts.{step_done, three_numbers, step_at}
 -- the bytes from a position on begin with the one there
 next_byte : (l : List ℕ) (i j : ℕ) → suc i ≡ j → j ≤ length l → drop i l ≡ get_or l i 0 ∷ drop j l
 next_byte l i j e h = drop-cons l i 0 (omega arith) ∙ ap (λ (k : ℕ). get_or l i 0 ∷ drop k l) e
+
+regroup : (s t u v w : Bool) → (s && t && u && v && w) ≡ (s && (t && u && v) && w)
+regroup true t u v w = refl
+regroup false t u v w = refl
 
 module _ (l : List ℕ) (at : ℕ) where
   pub long_length_most : long_length l at ≤ 8
@@ -47,23 +51,16 @@ module _ (l : List ℕ) (at : ℕ) where
   abbrev pub joined_bytes : ℕ
   joined_bytes = bit_or (bit_or (get_or l (at + 1) 0) (get_or l (at + 2) 0)) (get_or l (at + 7) 0)
 
-  -- where they are small and the kind is add, the last byte of the entry decides
-  pub long_told :
-      at + 8 ≤ length l → get_or l at 0 ≡ 1 → joined_bytes < 128 → not (eqb (last_byte (entry_bytes l at)) 0) ≡ is_long_add_at l at
+  -- the three tests of them in one
+  pub long_tests :
+      is_long_add_at l at
+      ≡ (leb (at + 8) (length l) && eqb (get_or l at 0) 1 && ltb joined_bytes 128 && not (eqb (last_byte (entry_bytes l at)) 0))
   unfolding is_long_add_at
-  long_told f k m =
+  long_tests =
       let a : ℕ = get_or l (at + 1) 0 in
       let b : ℕ = get_or l (at + 2) 0 in
-      let d : ℕ = get_or l (at + 7) 0 in
-      let most = right_most (bit_or a b) d in
-      let rest = left_most (bit_or a b) d in
-      rw (
-        le-leb (at + 8) (length l) f,
-        eq-eqb (get_or l at 0) 1 k,
-        lt-ltb a 128 (omega (arith, left_most a b)),
-        lt-ltb b 128 (omega (arith, right_most a b)),
-        lt-ltb d 128 (omega arith),
-      )
+      rw (or_below 7 (bit_or a b) (get_or l (at + 7) 0), or_below 7 a b)
+      (regroup (leb (at + 8) (length l) && eqb (get_or l at 0) 1) (ltb a 128) (ltb b 128) (ltb (get_or l (at + 7) 0) 128) _)
 
   -- the tests after the first
   abbrev tests : List Bool

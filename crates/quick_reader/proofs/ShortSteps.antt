@@ -3,13 +3,13 @@ use Rattle.model.specs.Numbers.{valued}
 use Rattle.model.specs.Log.{one_step}
 use Prim.Native.Nat.{ℕ, zero, suc, ◌+◌, ◌*◌, ◌≤◌, ◌<◌}
 use native.Mathlib.Omega.{arith}
-use mathlib.Core.Path.{◌≡◌, refl, sym, ◌∙◌}
-use mathlib.Core.Bool.{Bool, true}
+use mathlib.Core.Path.{◌≡◌, refl, sym}
+use mathlib.Core.Bool.{Bool, true, ◌&&◌}
 use mathlib.Core.List.{List, [], ◌∷◌}
 use lib.Bits.{bit_or}
 use lib.Dec.{leb, ltb}
 use lib.ListN.{length, drop, get_or}
-use borrow.Author.Tests.{leb-true, le-leb, ltb-true}
+use borrow.Author.Tests.{leb-true, ltb-true}
 use Rattle.types.specs.Kinds.{kind_of, is_kept, is_unknown}
 use Rattle.model.specs.Log.{step_of, read_step, read_at}
 use Rattle.model.specs.Numbers.{read_number, read_numbers}
@@ -45,17 +45,18 @@ module _ (l : List ℕ) (at : ℕ) where
   unfolding short_length
   short_length_most = omega (arith, fourth_most (get_or l at 0))
 
-  -- where there are eight bytes and the kind is known, the four bytes joined decide
-  pub short_joined :
-      at + 8 ≤ length l → 1 ≤ get_or l at 0 → get_or l at 0 ≤ 7
-      → ltb (bit_or (bit_or (bit_or (get_or l (at + 1) 0) (get_or l (at + 2) 0)) (get_or l (at + 3) 0)) (get_or l (at + 4) 0)) 128 ≡ is_short_at l at
+  -- the four bytes joined tell whether each is a number
+  abbrev pub joined_bytes : ℕ
+  joined_bytes = bit_or (bit_or (bit_or (get_or l (at + 1) 0) (get_or l (at + 2) 0)) (get_or l (at + 3) 0)) (get_or l (at + 4) 0)
+
+  pub short_tests :
+      is_short_at l at ≡ (leb (at + 8) (length l) && leb 1 (get_or l at 0) && leb (get_or l at 0) 7 && ltb joined_bytes 128)
   unfolding is_short_at all_below
-  short_joined f k m =
+  short_tests =
       let a : ℕ = get_or l (at + 1) 0 in
       let b : ℕ = get_or l (at + 2) 0 in
       let c : ℕ = get_or l (at + 3) 0 in
-      rw (le-leb (at + 8) (length l) f, le-leb 1 (get_or l at 0) k, le-leb (get_or l at 0) 7 m)
-      (or_below 7 (bit_or (bit_or a b) c) (get_or l (at + 4) 0) ∙ rw (or_below 7 (bit_or a b) c, or_below 7 a b))
+      rw (or_below 7 (bit_or (bit_or a b) c) (get_or l (at + 4) 0), or_below 7 (bit_or a b) c, or_below 7 a b)
 
   -- the tests after the first
   abbrev tests : List Bool

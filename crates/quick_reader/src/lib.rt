@@ -3,5 +3,50 @@
 
 #![tactic(auto)]
 
+ghost use Rattle.types.specs.Rejections.{answer_number};
+ghost use Rattle.std.specs.Prelude.{◌≡◌, ◌+◌, leb, length, drop};
+ghost use Rattle.model.specs.Log.{read_at};
+ghost use Rattle.model.specs.Results.{reading_step, reading_next, read_rejection, step_read, next_read};
+
+use types::Reading;
+use types::rejection::Rejection;
+
 pub mod long;
 pub mod short;
+
+// So many bytes are looked at: no short step has more, and no add whose shard and index have one byte each.
+const WINDOW: usize = 8;
+
+// The bit of a byte that tells that more bytes of its number follow (`numbers::TOP_BIT`).
+const TOP_BIT: u8 = 128;
+
+// The step at a position of a log, with the position after it, or nothing where the log ends there. It is to be put into the loops over logs: as a call it
+// costs them up to a quarter of their time.
+#[inline(always)]
+pub fn read_step(log: &[u8], at: usize) -> Result<Option<Reading>, Rejection>
+    ensures result_value { answer_number result ≡ read_rejection (drop at log.now) }
+    ensures result_value_2 { reading_step result ≡ step_read (drop at log.now) }
+    ensures result_value_3 { reading_next result ≡ next_read log.now at }
+    ensures value { result ≡ read_at log.now at }
+{
+    if short::is_short(log, at) {
+        return Ok(Some(Reading {
+            step: short::step(log, at),
+            next: at + short::byte_count(log, at),
+        }));
+    }
+    if long::is_long_add(log, at) {
+        return Ok(Some(Reading {
+            step: long::step(log, at),
+            next: at + long::byte_count(log, at),
+        }));
+    }
+    log_reader::read_step(log, at)
+}
+
+// Whether the bytes that are looked at are left at a position.
+fn has_window(log: &[u8], at: usize) -> bool
+    ensures { result ≡ leb (at + 8) (length log.now) }
+{
+    at < log.len() && WINDOW <= log.len() - at
+}

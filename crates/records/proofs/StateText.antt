@@ -1,4 +1,4 @@
--- The text of a well-formed state: a shard's part is that of the replica which the pick finds, and the whole is the header and the shards' parts.
+-- The text of a well-formed state: the header and the shards' parts.
 -- Assumes nothing.
 use Prim.Native.Nat.{ℕ, ◌+◌, ◌-◌, ◌*◌, ◌≤◌, ◌<◌}
 use native.Mathlib.Omega.{arith}
@@ -7,10 +7,9 @@ use mathlib.Core.List.{List, ◌++◌}
 use lib.ListN.{length, length-append}
 use borrow.Author.Tests.{le-leb}
 use Rattle.model.specs.Layout.{shards_of, is_state_length}
+use Rattle.model.specs.StableHistory.{stable_history}
 use Rattle.model.proofs.Lengths.{shards_most}
-use Rattle.stable_entries.specs.StableEntries.{entries_at}
-use Rattle.stable_entries.specs.Pick.{longest_place, OfShard}
-use Rattle.stable_entries.proofs.Longest.{picked_entries}
+use Rattle.stable_entries.specs.Pick.{OfShard}
 use Rattle.decimal_text.proofs.PartLoops.{Measured}
 use Rattle.csv_rows.specs.Format.{row_text}
 use Rattle.csv_rows.specs.Rows.{rows}
@@ -20,14 +19,10 @@ use Rattle.records.specs.LargestCsv.{header_bytes, shard_most, csv_most, Largest
 use Rattle.csv_rows.proofs.TextParts.{shards_left}
 use Rattle.records.proofs.LargestCsv.{csv_largest}
 
--- ---- a shard
-
-module _ {w : List ℕ} {z p : ℕ} (s : OfShard w z) (e : p ≡ longest_place w z 31) where
-  pub shard_text_lem : shard_text w z ≡ history_text z (entries_at w p)
-  unfolding shard_text
-  shard_text_lem = rw (picked_entries s e)
-
--- ---- the state
+-- the rows of a shard's stable history are the shard's part
+pub shard_part : (w : List ℕ) (z : ℕ) {es : List ℕ} → es ≡ stable_history w z → history_text z es ≡ shard_text w z
+unfolding shard_text
+shard_part w z e = rw e
 
 module _ {w : List ℕ} {n : ℕ} (f : FormedOf w n) where
   pub of_shard : (z : ℕ) → z < n → OfShard w z

@@ -1,7 +1,7 @@
 // The text for spreadsheets: every shard's stable history as rows of comma-separated fields, written into a borrowed output. What it says is in
 // `csv_rows`: `Csv`.
 
-#![tactic(auto)]
+#![tactic(auto, using(decimal_text::proofs::Appending::appending))]
 
 ghost use Rattle.types.specs.Rejections.{answer_count, answer_number};
 ghost use Rattle.std.specs.Prelude.{◌≡◌};

@@ -1,11 +1,13 @@
 // The whole text: the header, and the rows of the shards one after the other.
-ghost use Rattle.std.specs.Prelude.{◌≡◌, length};
+ghost use Rattle.std.specs.Prelude.{◌≡◌, ◌≤◌, length};
 ghost use Rattle.std.proofs.lemmas.List.Edits.{sets};
+ghost use Rattle.decimal_text.specs.Appended.{HasRoom, Appended};
 ghost use Rattle.csv_rows.specs.Csv.{csv};
-ghost use Rattle.csv_rows.specs.Room.{FormedOf, TextRoom};
+ghost use Rattle.csv_rows.specs.Room.{FormedOf};
 
-use crate::shard::{shard_length, write_shard};
-use decimal_text::bytes::write_bytes;
+use crate::shard::stable_history;
+use csv_rows::history::{append_history, history_length};
+use decimal_text::text::Text;
 
 // How long the header row is.
 pub const HEADER_BYTES: usize = 23;
@@ -19,25 +21,32 @@ pub fn text_length(state: &[u64], shards: usize) -> usize
     ensures { result ≡ length (csv state.now) }
 {
     let mut sum = HEADER_BYTES;
-    let mut shard = 0;
-    while shard < shards {
-        sum += shard_length(state, shard as u64);
-        shard += 1;
+    for shard in 0..shards as u64 {
+        sum += history_length(shard, stable_history(state, shard));
     }
     sum
 }
 
 // Writes the text of a well-formed state to the start of an output that has room for it, and returns its length.
 pub fn write_text(out: &mut [u8], state: &[u64], shards: usize) -> usize
-    requires { TextRoom out.old state.now shards }
+    requires of { FormedOf state.now shards }
+    requires room { length (csv state.now) ≤ length out.old }
     ensures value { result ≡ length (csv state.now) }
     ensures out_after { out.new ≡ sets out.old 0 (csv state.now) }
 {
-    let mut end = write_bytes(out, 0, b"zone,place,kind,entry\r\n");
-    let mut shard = 0;
-    while shard < shards {
-        end = write_shard(out, end, state, shard as u64);
-        shard += 1;
+    let mut text = Text::new(out, 0);
+    append_text(&mut text, state, shards);
+    text.end()
+}
+
+// Appends the text of a well-formed state.
+fn append_text(text: &mut Text<'_>, state: &[u64], shards: usize)
+    requires of { FormedOf state.now shards }
+    requires room { HasRoom text.old (csv state.now) }
+    ensures { Appended text.old (csv state.now) text.new }
+{
+    text.bytes(b"zone,place,kind,entry\r\n");
+    for shard in 0..shards as u64 {
+        append_history(text, shard, stable_history(state, shard));
     }
-    end
 }

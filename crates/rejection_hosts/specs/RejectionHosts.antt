@@ -1,7 +1,9 @@
 -- Whose rejection a step's is (document 02, A7).
 use Rattle.std.specs.Prelude.{ℕ, ◌≡◌, cond, ◌||◌, List, eqb}
 use Rattle.types.specs.declared.step.Step.{Step}
+use Rattle.types.specs.declared.rejection.Rejection.{Rejection}
 use Rattle.types.specs.Kinds.{kind_of}
+use Rattle.types.specs.Rejections.{rejection_number}
 use Rattle.types.specs.Rules.{Known}
 use Rattle.types.specs.Members.{is_host}
 use Rattle.types.specs.StepNames.{shard_of, configuration_of, acting_host}
@@ -13,17 +15,20 @@ use Rattle.lookup.specs.Ready.{Formed}
 abbrev pub no_host : ℕ
 no_host = 16
 
--- "The box is the named one; for add it is the orderer of the named configuration. No box is named .. for add, when refusal 7 or 10 occurs."
+-- "No box is named .. for add, when refusal 7 or 10 occurs."
+abbrev pub orderer_named : List ℕ → Step → ℕ
+orderer_named w s = cond (eqb (rejection w s) 7 || eqb (rejection w s) 10) no_host (orderer w (shard_of s) (configuration_of s))
+
+-- "The box is the named one; for add it is the orderer of the named configuration."
 unfoldable pub named_host : List ℕ → Step → ℕ
-named_host w s =
-    acting_host s (cond (eqb (rejection w s) 7 || eqb (rejection w s) 10) no_host (orderer w (shard_of s) (configuration_of s)))
+named_host w s = acting_host s (orderer_named w s)
 
 -- the count that a rejection goes to: "No box is named when its number is above 15"
 unfoldable pub count_of : List ℕ → Step → ℕ
 count_of w s = cond (is_host (named_host w s)) (named_host w s) no_host
 
 -- a step that was rejected, as it is looked at for its host
-pub record RejectedStep (w : List ℕ) (s : Step) (answer : ℕ) : Type 0 where
+pub record RejectedStep (w : List ℕ) (s : Step) (r : Rejection) : Type 0 where
   pub formed : Formed w
   pub known : Known (kind_of s.kind)
-  pub is : answer ≡ rejection w s
+  pub is : rejection_number r ≡ rejection w s

@@ -2,36 +2,38 @@
 
 #![tactic(auto)]
 
-ghost use Rattle.std.specs.Prelude.{◌≡◌};
-ghost use Rattle.rejection_hosts.specs.RejectionHosts.{RejectedStep, named_host, count_of};
+ghost use Rattle.std.specs.Prelude.{◌≡◌, ◌<◌, IfSome, unwrap_or};
+ghost use Rattle.rejection_hosts.specs.RejectionHosts.{RejectedStep, orderer_named, count_of, no_host};
 
+use lookup::name::Named;
+use types::rejection::Rejection;
 use types::step::Step;
 
-// Hosts are 0 to 15. The number after them stands for no host.
-pub const NO_HOST: u64 = 16;
+// Hosts are 0 to 15. The number after them is no host's.
+const NO_HOST: u64 = 16;
 
-// The count that a rejection goes to: that of the acting host, or of none.
-pub fn count_of(state: &[u64], s: Step, answer: u64) -> u64
-    requires { RejectedStep state.now s answer }
-    ensures { result ≡ count_of state.now s }
+// The host that a rejection counts for: the acting host; of an add, the orderer of the configuration named. None where no host, or no host's number, is
+// named.
+pub fn count_of(state: &[u64], s: Step, rejection: Rejection) -> Option<u64>
+    requires { RejectedStep state.now s rejection }
+    ensures value { unwrap_or result no_host ≡ count_of state.now s }
+    ensures host { IfSome result (λ host. host < no_host) }
 {
-    let host = named_host(state, s, answer);
-    if host < NO_HOST {
-        return host;
-    }
-    NO_HOST
+    let host = s.host(orderer_named(state, s, rejection).unwrap_or(NO_HOST));
+    if host < NO_HOST { Some(host) } else { None }
 }
 
-// The acting host of a step that was rejected: the named one; of an add, the orderer of the configuration named, and none where it was rejected by 7 or 10.
-fn named_host(state: &[u64], s: Step, answer: u64) -> u64
-    requires { RejectedStep state.now s answer }
-    ensures { result ≡ named_host state.now s }
+// The orderer of the configuration that a rejected step names, which has none where the rejection is 7 or 10.
+fn orderer_named(state: &[u64], s: Step, rejection: Rejection) -> Option<u64>
+    requires { RejectedStep state.now s rejection }
+    ensures { unwrap_or result no_host ≡ orderer_named state.now s }
 {
-    let named = s.host(NO_HOST);
-    if answer == 7 || answer == 10 {
-        return named;
+    if matches!(rejection, Rejection::OutOfRange | Rejection::NotInstalled) {
+        return None;
     }
-    let z = s.shard() as usize;
-    let j = (s.b - 1) as usize;
-    s.host(lookup::configuration_of(state, z, j).orderer)
+    let at = Named {
+        z: s.shard() as usize,
+        j: (s.b - 1) as usize,
+    };
+    Some(lookup::configuration_of(state, at).orderer)
 }

@@ -12,6 +12,7 @@ use lib.Dec.{eqb}
 use lib.ListN.{length, drop, drop_of_length-le, length-drop}
 use lib.Seq.{drop-drop, drop-cons}
 use Rattle.types.specs.declared.step.Step.{Step}
+use Rattle.types.specs.declared.rejection.Rejection.{Rejection}
 use Rattle.types.specs.declared.Stop.{Stop}
 use Rattle.types.specs.declared.Stop.TheVariants.{Ended, Spent, Damaged}
 use Rattle.types.specs.declared.Report.{Report}
@@ -66,7 +67,7 @@ read_end log at e = go (read_step (drop at log)) refl e
     go (Ok None) q p = q
     go (Err r) q p = absurd (let z : ◌≡◌ {A = ℕ} 0 1 = cc in omega arith)
 
-pub read_rejected : (log : List ℕ) (at r : ℕ) → read_at log at ≡ Err r → read_step (drop at log) ≡ Err r
+pub read_rejected : (log : List ℕ) (at : ℕ) (r : Rejection) → read_at log at ≡ Err r → read_step (drop at log) ≡ Err r
 unfolding read_at from
 read_rejected log at r e = go (read_step (drop at log)) refl e
   where
@@ -84,7 +85,7 @@ log_end : (n : ℕ) (bs : List ℕ) → read_step bs ≡ (Ok None) → read_log 
 unfolding read_log log_after
 log_end n bs e = rw e
 
-log_damaged : (n : ℕ) (bs : List ℕ) (r : ℕ) → read_step bs ≡ Err r → read_log (suc n) bs ≡ stopped (Damaged r)
+log_damaged : (n : ℕ) (bs : List ℕ) (r : Rejection) → read_step bs ≡ Err r → read_log (suc n) bs ≡ stopped (Damaged r)
 unfolding read_log log_after
 log_damaged n bs r e = rw e
 
@@ -104,7 +105,7 @@ module _ (log : List ℕ) (budget at tried : ℕ) where
   pub reads_end : tried < budget → read_at log at ≡ (Ok None) → read_log (budget - tried) (drop at log) ≡ stopped Ended
   reads_end h e = rw (one_less h) (log_end (budget - (tried + 1)) (drop at log) (read_end log at e))
 
-  pub reads_damage : (r : ℕ) → tried < budget → read_at log at ≡ Err r → read_log (budget - tried) (drop at log) ≡ stopped (Damaged r)
+  pub reads_damage : (r : Rejection) → tried < budget → read_at log at ≡ Err r → read_log (budget - tried) (drop at log) ≡ stopped (Damaged r)
   reads_damage r h e = rw (one_less h) (log_damaged (budget - (tried + 1)) (drop at log) r (read_rejected log at r e))
 
   -- the budget is used up: ended where no byte is left, else spent
@@ -193,7 +194,7 @@ module _ {w₀ log : List ℕ} {budget : ℕ} {w : List ℕ} {at tried rejected 
       → (report_of Ended tried rejected at ≡ run_report w₀ log budget) × (w ≡ after_run w₀ log budget)
   rest_end h e = stops (reads_end log budget at tried h e)
 
-  pub rest_damaged : (r : ℕ) → tried < budget → read_at log at ≡ Err r
+  pub rest_damaged : (r : Rejection) → tried < budget → read_at log at ≡ Err r
       → (report_of (Damaged r) tried rejected at ≡ run_report w₀ log budget) × (w ≡ after_run w₀ log budget)
   rest_damaged r h e = stops (reads_damage log budget at tried r h e)
 

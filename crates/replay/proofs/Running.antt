@@ -33,14 +33,6 @@ formed_after {w} f s =
       long = rw (step_length w s) f.long;
     }
 
--- a step and its bytes, as the code has them
-pub read_as : (log : List ℕ) (at : ℕ) {s t : Step} {m n : ℕ} → read_at log at ≡ one_step t (at + n) → s ≡ t → m ≡ n → read_at log at ≡ one_step s (at + m)
-read_as log at e p q = e ∙ ap₂ (λ (x : Step) (k : ℕ). one_step x (at + k)) (sym p) (sym q)
-
--- what a step answers and leaves is what another that is the same does
-pub tried_as : (w : List ℕ) {v : List ℕ} {a : ℕ} {s t : Step} → s ≡ t → (a ≡ rejection w s) × (v ≡ after w s) → (a ≡ rejection w t) × (v ≡ after w t)
-tried_as w e f = rw e at f
-
 -- the number of shards stays
 pub counted_still : {w₀ log : List ℕ} {budget : ℕ} {w : List ℕ} {at tried rejected n : ℕ} → Running w₀ log budget w at tried rejected
     → n ≡ shards_of (length w₀) → n ≡ shards_of (length w)

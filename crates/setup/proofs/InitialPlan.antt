@@ -1,9 +1,9 @@
 -- A plan that passes setup's test is known to be short and to name few members; where its sequencers are.
 -- Assumes nothing.
-use Prim.Native.Nat.{ℕ, ◌*◌, ◌≤◌}
+use Prim.Native.Nat.{ℕ, ◌+◌, ◌*◌, ◌≤◌}
 use native.Mathlib.Omega.{arith}
-use mathlib.Core.Path.{◌≡◌, ap, fun_ext}
-use mathlib.Core.Bool.{true}
+use mathlib.Core.Path.{◌≡◌, refl, ap, fun_ext}
+use mathlib.Core.Bool.{true, ◌&&◌}
 use mathlib.Core.List.{List, [], ◌∷◌}
 use lib.Dec.{eqb}
 use lib.ListN.{length, get_or}
@@ -17,6 +17,12 @@ use Rattle.model.proofs.WellFormedMembers.{configured}
 use Rattle.setup.specs.Planned.{Planned}
 
 module _ (Z : ℕ) (p : List ℕ) where
+  -- the test of a planned shard, by its words
+  pub planned_words : (z : ℕ) → is_planned_shard Z p z
+      ≡ (is_sequencer Z z (get_or p (3 * z) 0) && is_configuration (get_or p (3 * z + 1) 0) (get_or p (3 * z + 2) 0))
+  unfolding is_planned_shard plan_sequencer plan_members plan_orderer
+  planned_words z = refl
+
   shard_configured : (z : ℕ) → is_planned_shard Z p z ≡ true → is_configuration (plan_members p z) (plan_orderer p z) ≡ true
   unfolding is_planned_shard
   shard_configured z e =

@@ -9,7 +9,7 @@ use wellformed::sequencer::all_differ;
 pub const SHARD_PLAN: usize = 3;
 
 // Whether the three words of shard z are proper.
-#[tactic(auto, unfolding(model::specs::Setup::is_planned_shard, model::specs::Setup::plan_sequencer, model::specs::Setup::plan_members, model::specs::Setup::plan_orderer))]
+#[tactic(auto, using(crate::proofs::InitialPlan::planned_words))]
 fn is_planned_shard(plan: &[u64], shards: usize, z: usize) -> bool
     requires { (z < shards) × (length plan.now ≡ 3 * shards) }
     ensures { result ≡ is_planned_shard shards plan.now z }

@@ -1,19 +1,11 @@
--- The line of a shard, with the words of the picked replica.
+-- The line of a shard in three parts.
 -- Assumes nothing.
-use Prim.Native.Nat.{ℕ, ◌+◌, ◌≤◌}
-use mathlib.Core.Path.{◌≡◌}
+use Prim.Native.Nat.{ℕ}
+use mathlib.Core.Path.{◌≡◌, refl}
 use mathlib.Core.List.{List, ◌++◌}
-use lib.ListN.{length}
+use Rattle.model.specs.StableHistory.{stable_history}
 use Rattle.model.specs.Transcript.{spaced, spaced_all, newline, zone_word, shard_line}
-use Rattle.stable_entries.specs.StableEntries.{entries_at}
-use Rattle.stable_entries.specs.Pick.{longest_place, OfShard}
-use Rattle.stable_entries.proofs.Longest.{picked, picked_entries}
-use Rattle.text_lines.specs.LineRoom.{EntriesRoom}
 
-module _ {w : List ℕ} {z p : ℕ} (f : OfShard w z) (e : p ≡ longest_place w z 31) where
-  pub shard_text_lem : shard_line w z ≡ zone_word ++ (spaced z ++ (spaced_all (entries_at w p) ++ newline))
-  unfolding shard_line
-  shard_text_lem = rw (picked_entries f e)
-
-  pub entries_room : (out : List ℕ) (at : ℕ) → at + length (spaced_all (entries_at w p)) ≤ length out → EntriesRoom out at w p
-  entries_room out at r = record { has = picked f e; room = r }
+pub shard_text_lem : (w : List ℕ) (z : ℕ) → shard_line w z ≡ (zone_word ++ spaced z) ++ (spaced_all (stable_history w z) ++ newline)
+unfolding shard_line
+shard_text_lem w z = refl

@@ -1,23 +1,15 @@
--- Numbers with a space before each.
+-- Numbers with a space before each, one by one.
 -- Assumes nothing.
-use Prim.Native.Nat.{ℕ, suc, ◌+◌, ◌<◌}
+use Prim.Native.Nat.{ℕ, suc, ◌<◌}
 use native.Mathlib.Omega.{arith}
 use mathlib.Core.Path.{◌≡◌}
 use mathlib.Core.List.{List, ◌++◌}
-use lib.ListN.{length, get_or, drop, drop_of_length-le, set}
-use lib.Seq.{sets, drop-cons}
-use Rattle.model.specs.Transcript.{decimal, spaced, spaced_all}
+use lib.ListN.{length, get_or, drop, drop_of_length-le}
+use lib.Seq.{drop-cons}
+use Rattle.model.specs.Transcript.{spaced, spaced_all}
 use Rattle.decimal_text.proofs.PartLoops.{InParts}
 
-pub spaced-length : (n : ℕ) → length (spaced n) ≡ length (decimal n) + 1
-unfolding spaced
-spaced-length n = omega arith
-
-pub spaced_stores : (out : List ℕ) (at n : ℕ) → sets (set out at 32) (at + 1) (decimal n) ≡ sets out at (spaced n)
-unfolding spaced
-spaced_stores out at n = let one : at + 1 ≡ suc at = omega arith in rw one
-
--- several numbers one by one: those from place i on
+-- those from place i on
 abbrev pub numbers_left : List ℕ → ℕ → List ℕ
 numbers_left numbers i = spaced_all (drop i numbers)
 

@@ -1,6 +1,6 @@
-// What the program's lines are made of: words, numbers and line ends; and the line of a shard.
+// What the program's lines are made of: words and numbers; and the line of a shard.
 
-#![tactic(auto)]
+#![tactic(auto, using(decimal_text::proofs::Appending::appending))]
 
 pub mod number;
 pub mod shards;

@@ -1,52 +1,35 @@
-// Numbers with a space before each, and the end of a line.
-ghost use Rattle.std.specs.Prelude.{◌≡◌, ◌++◌, ◌+◌, ◌≤◌, length};
-ghost use Rattle.std.proofs.lemmas.List.Edits.{sets};
-ghost use Rattle.model.specs.Transcript.{spaced, spaced_all, newline};
+// Numbers with a space before each.
+ghost use Rattle.std.specs.Prelude.{◌++◌};
+ghost use Rattle.model.specs.Transcript.{spaced, spaced_all};
+ghost use Rattle.decimal_text.specs.Appended.{HasRoom, Appended};
 
-use decimal_text::bytes::write_bytes;
-use decimal_text::decimal::write_decimal;
+use decimal_text::text::Text;
 
-// A space and a number.
-pub fn write_spaced(out: &mut [u8], at: usize, n: u64) -> usize
-    requires { at + length (spaced n) ≤ length out.old }
-    ensures value { result ≡ at + length (spaced n) }
-    ensures out_after { out.new ≡ sets out.old at (spaced n) }
+// Appends a space and a number.
+#[tactic(auto, using(decimal_text::proofs::Appending::appending), unfolding(model::specs::Transcript::spaced))]
+pub fn append_spaced(text: &mut Text<'_>, n: u64)
+    requires { HasRoom text.old (spaced n) }
+    ensures { Appended text.old (spaced n) text.new }
 {
-    out[at] = 32;
-    write_decimal(out, at + 1, n)
+    text.byte(b' ');
+    text.decimal(n);
 }
 
-// A word, a space and a number.
-pub fn write_word(out: &mut [u8], at: usize, word: &[u8], n: u64) -> usize
-    requires { at + length (word.now ++ spaced n) ≤ length out.old }
-    ensures value { result ≡ at + length (word.now ++ spaced n) }
-    ensures out_after { out.new ≡ sets out.old at (word.now ++ spaced n) }
+// Appends a word, a space and a number.
+pub fn append_word(text: &mut Text<'_>, word: &[u8], n: u64)
+    requires { HasRoom text.old (word.now ++ spaced n) }
+    ensures { Appended text.old (word.now ++ spaced n) text.new }
 {
-    let a = write_bytes(out, at, word);
-    write_spaced(out, a, n)
+    text.bytes(word);
+    append_spaced(text, n);
 }
 
-// A space before each of several numbers.
-pub fn write_all_spaced(out: &mut [u8], at: usize, numbers: &[u64]) -> usize
-    requires { at + length (spaced_all numbers.now) ≤ length out.old }
-    ensures value { result ≡ at + length (spaced_all numbers.now) }
-    ensures out_after { out.new ≡ sets out.old at (spaced_all numbers.now) }
+// Appends a space and a number for each of several numbers.
+pub fn append_all_spaced(text: &mut Text<'_>, numbers: &[u64])
+    requires { HasRoom text.old (spaced_all numbers.now) }
+    ensures { Appended text.old (spaced_all numbers.now) text.new }
 {
-    let mut end = at;
-    let mut i = 0;
-    while i < numbers.len() {
-        end = write_spaced(out, end, numbers[i]);
-        i += 1;
+    for n in numbers {
+        append_spaced(text, *n);
     }
-    end
-}
-
-// The end of a line.
-pub fn write_newline(out: &mut [u8], at: usize) -> usize
-    requires { at + 1 ≤ length out.old }
-    ensures value { result ≡ at + 1 }
-    ensures out_after { out.new ≡ sets out.old at (newline) }
-{
-    out[at] = 10;
-    at + 1
 }

@@ -1,33 +1,44 @@
 // The line of a shard: its stable history.
-ghost use Rattle.std.specs.Prelude.{◌≡◌, ◌+◌, length};
-ghost use Rattle.std.proofs.lemmas.List.Edits.{sets};
-ghost use Rattle.model.specs.Transcript.{spaced_all, shard_line};
-ghost use Rattle.stable_entries.specs.StableEntries.{entries_at};
-ghost use Rattle.text_lines.specs.LineRoom.{LineRoom, EntriesRoom};
+ghost use Rattle.std.specs.Prelude.{◌≡◌};
+ghost use Rattle.model.specs.StableHistory.{stable_history};
+ghost use Rattle.model.specs.Transcript.{shard_line};
+ghost use Rattle.stable_entries.specs.Pick.{OfShard};
+ghost use Rattle.stable_entries.specs.StableEntries.{entries_at, HasEntries};
+ghost use Rattle.decimal_text.specs.Appended.{HasRoom, Appended};
 
-use crate::number::{write_all_spaced, write_newline, write_word};
+use crate::number::{append_all_spaced, append_word};
+use decimal_text::text::Text;
 use stable_entries::pick::longest;
 use types::layout::{ENTRIES, STABLE};
 
-// The word `zone`, the shard's number, and the entries of its stable history.
-pub fn write_shard(out: &mut [u8], at: usize, state: &[u64], shard: u64) -> usize
-    requires { LineRoom out.old at state.now shard }
-    ensures value { result ≡ at + length (shard_line state.now shard) }
-    ensures out_after { out.new ≡ sets out.old at (shard_line state.now shard) }
+// Appends the word `zone`, the shard's number, and the entries of its stable history.
+#[tactic(auto, using(decimal_text::proofs::Appending::appending, crate::proofs::ShardText::shard_text_lem))]
+pub fn append_shard(text: &mut Text<'_>, state: &[u64], shard: u64)
+    requires of { OfShard state.now shard }
+    requires room { HasRoom text.old (shard_line state.now shard) }
+    ensures { Appended text.old (shard_line state.now shard) text.new }
 {
-    let place = longest(state, shard);
-    let a = write_word(out, at, b"zone", shard);
-    let b = write_entries(out, a, state, place);
-    write_newline(out, b)
+    append_word(text, b"zone", shard);
+    append_all_spaced(text, stable_history(state, shard));
+    text.byte(b'\n');
+}
+
+// A shard's stable history: the stable prefix of the replica that the pick finds.
+#[tactic(auto, using(stable_entries::proofs::Longest::picked_entries))]
+fn stable_history(state: &[u64], shard: u64) -> &[u64]
+    requires { OfShard state.now shard }
+    ensures { result.now ≡ stable_history state.now shard }
+{
+    entries(state, longest(state, shard))
 }
 
 // The stable prefix of the replica at a place.
-fn write_entries(out: &mut [u8], at: usize, state: &[u64], place: usize) -> usize
-    requires { EntriesRoom out.old at state.now place }
-    ensures value { result ≡ at + length (spaced_all (entries_at state.now place)) }
-    ensures out_after { out.new ≡ sets out.old at (spaced_all (entries_at state.now place)) }
+#[tactic(auto, using(stable_entries::proofs::Stable::entries_part))]
+fn entries(state: &[u64], place: usize) -> &[u64]
+    requires { HasEntries state.now place }
+    ensures { result.now ≡ entries_at state.now place }
 {
     let from = place + ENTRIES;
     let end = from + (state[place + STABLE] as usize);
-    write_all_spaced(out, at, &state[from..end])
+    &state[from..end]
 }

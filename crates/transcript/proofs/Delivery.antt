@@ -6,8 +6,8 @@ use Rattle.types.specs.Rejections.{Written, answer_count, answer_number}
 use Prim.Native.Nat.{ℕ, ◌+◌, ◌≤◌, ◌<◌}
 use native.Mathlib.Nat.{zero-add}
 use native.Mathlib.Omega.{arith}
-use mathlib.Core.Path.{◌≡◌, refl, sym, ◌∙◌}
-use mathlib.Core.List.{List}
+use mathlib.Core.Path.{◌≡◌, refl, ◌∙◌}
+use mathlib.Core.List.{List, ◌++◌}
 use native.Mathlib.Decide.{dec_le}
 use lib.ListN.{length, take, drop, replicate, length-replicate, length-append, length-drop}
 use lib.Seq.{sets, sets-eq, take_at, length-take-le, length-sets}
@@ -86,7 +86,7 @@ module _ (out text : List ℕ) where
       ]
 
 module _ (out space : List ℕ) (n : ℕ) (h : n ≤ length space) where
-  pub long : length (take n space) ≡ n
+  long : length (take n space) ≡ n
   long = length-take-le n space h
 
   pub too_short_lem : length out < n → (Err OutputLength ≡ text_writing out (take n space)) × (out ≡ after_text out (take n space))
@@ -95,9 +95,9 @@ module _ (out space : List ℕ) (n : ℕ) (h : n ≤ length space) where
       let e = no_room out (take n space) (omega (arith, l, long)) in
       (rw e, rw e)
 
-  module _ (l : n ≤ length out) where
-    pub room : 0 + length (take n space) ≤ length out
-    room = omega (arith, long)
-
-    pub delivered : {v : List ℕ} → v ≡ sets out 0 (take n space) → (Ok n ≡ text_writing out (take n space)) × (v ≡ after_text out (take n space))
-    delivered f = written out (take n space) (omega (arith, l, long)) (sym long, f)
+  pub delivered : n ≤ length out
+      → (Ok n ≡ text_writing out (take n space)) × (take n space ++ drop n out ≡ after_text out (take n space))
+  unfolding text_writing after_text
+  delivered l =
+      let f = fits out (take n space) (omega (arith, l, long)) in
+      (rw (f, long), rw (f, long))

@@ -1,6 +1,4 @@
 -- Laws of the text.
--- Bytes and words
-pub mod StopTexts
 -- The lines
 pub mod RunLines
 -- The largest text

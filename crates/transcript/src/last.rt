@@ -1,43 +1,35 @@
 // The last line of the text.
-ghost use Rattle.std.specs.Prelude.{◌≡◌, ◌+◌, ◌≤◌, length};
-ghost use Rattle.std.proofs.lemmas.List.Edits.{sets};
 ghost use Rattle.model.specs.Transcript.{stop_text, last_line};
 ghost use Rattle.replay.specs.Run.{report_of};
+ghost use Rattle.decimal_text.specs.Appended.{HasRoom, Appended};
 
-use decimal_text::bytes::write_bytes;
-use text_lines::number::{write_newline, write_spaced, write_word};
+use decimal_text::text::Text;
+use text_lines::number::{append_spaced, append_word};
 use types::Stop;
 
-// How a replay stopped, then the steps tried, those rejected, and the bytes of whole steps.
-pub fn write_last(
-    out: &mut [u8],
-    at: usize,
-    stop: Stop,
-    tried: u64,
-    rejected: u64,
-    bytes: u64,
-) -> usize
-    requires { at + length (last_line (report_of stop tried rejected bytes)) ≤ length out.old }
-    ensures value { result ≡ at + length (last_line (report_of stop tried rejected bytes)) }
-    ensures out_after { out.new ≡ sets out.old at (last_line (report_of stop tried rejected bytes)) }
+// Appends how a replay stopped, then the steps tried, those rejected, and the bytes of whole steps.
+#[tactic(auto, using(decimal_text::proofs::Appending::appending), unfolding(model::specs::Transcript::last_line))]
+pub fn append_last(text: &mut Text<'_>, stop: Stop, tried: u64, rejected: u64, bytes: u64)
+    requires { HasRoom text.old (last_line (report_of stop tried rejected bytes)) }
+    ensures { Appended text.old (last_line (report_of stop tried rejected bytes)) text.new }
 {
-    let a = write_stop(out, at, stop);
-    let b = write_spaced(out, a, tried);
-    let c = write_spaced(out, b, rejected);
-    let d = write_spaced(out, c, bytes);
-    write_newline(out, d)
+    append_stop(text, stop);
+    append_spaced(text, tried);
+    append_spaced(text, rejected);
+    append_spaced(text, bytes);
+    text.byte(b'\n');
 }
 
-// How a replay stopped, and the number of its rejection where there is one.
-fn write_stop(out: &mut [u8], at: usize, stop: Stop) -> usize
-    requires { at + length (stop_text stop) ≤ length out.old }
-    ensures value { result ≡ at + length (stop_text stop) }
-    ensures out_after { out.new ≡ sets out.old at (stop_text stop) }
+// Appends how a replay stopped, and the number of its rejection where there is one.
+#[tactic(auto, using(decimal_text::proofs::Appending::appending), unfolding(model::specs::Transcript::stop_text))]
+fn append_stop(text: &mut Text<'_>, stop: Stop)
+    requires { HasRoom text.old (stop_text stop) }
+    ensures { Appended text.old (stop_text stop) text.new }
 {
     match stop {
-        Stop::Ended => write_bytes(out, at, b"ended"),
-        Stop::Spent => write_bytes(out, at, b"spent"),
-        Stop::Damaged(r) => write_word(out, at, b"damaged", r),
-        Stop::Rejected(r) => write_word(out, at, b"rejected", r),
+        Stop::Ended => text.bytes(b"ended"),
+        Stop::Spent => text.bytes(b"spent"),
+        Stop::Damaged(r) => append_word(text, b"damaged", r),
+        Stop::Rejected(r) => append_word(text, b"rejected", r),
     }
 }

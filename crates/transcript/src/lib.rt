@@ -1,13 +1,12 @@
 // The program's whole text for a log, written into a borrowed output. What it says is in `model`: `Transcript`.
 
-#![tactic(auto)]
+#![tactic(auto, using(decimal_text::proofs::Appending::appending))]
 
 ghost use Rattle.types.specs.Rejections.{answer_count, answer_number};
 ghost use Rattle.std.specs.Prelude.{◌≡◌, ◌≤◌, length, take};
 ghost use Rattle.model.specs.Transcript.{transcript};
 ghost use Rattle.transcript.specs.Text.{text_rejection, text_count, text_writing, after_text};
 
-use decimal_text::bytes::write_bytes;
 use types::Writing;
 
 mod last;
@@ -42,6 +41,6 @@ fn deliver(out: &mut [u8], space: &[u8], len: usize) -> Writing
     if out.len() < len {
         return Writing::Rejected(8);
     }
-    write_bytes(out, 0, &space[..len]);
+    out[..len].copy_from_slice(&space[..len]);
     Writing::Bytes(len)
 }

@@ -5,12 +5,12 @@ ghost use Rattle.model.specs.Transcript.{program_budget};
 ghost use Rattle.replay.specs.Run.{after_run};
 ghost use Rattle.transcript.specs.Text.{step_line, run_lines, printed_as, printed, RunRoom};
 
-use decimal_text::decimal::write_decimal;
+use decimal_text::text::Text;
 use machine::step_inside;
 use quick_reader::long::is_long_add;
 use quick_reader::short::is_short;
 use quick_reader::{long, short};
-use text_lines::number::{write_newline, write_spaced};
+use text_lines::number::append_spaced;
 use types::{Reading, Stop};
 
 // How many steps the program tries at most.
@@ -72,15 +72,18 @@ pub fn write_steps(state: &mut [u64], log: &[u8], out: &mut [u8]) -> Printed
 }
 
 // The line of a step: its number from 1, its kind, its rejection or 0.
+#[tactic(auto, using(decimal_text::proofs::Appending::appending), unfolding(crate::specs::Text::step_line))]
 fn write_line(out: &mut [u8], at: usize, n: u64, kind: u64, answer: u64) -> usize
     requires { at + length (step_line n kind answer) ≤ length out.old }
     ensures value { result ≡ at + length (step_line n kind answer) }
     ensures out_after { out.new ≡ sets out.old at (step_line n kind answer) }
 {
-    let a = write_decimal(out, at, n);
-    let b = write_spaced(out, a, kind);
-    let c = write_spaced(out, b, answer);
-    write_newline(out, c)
+    let mut text = Text::new(out, at);
+    text.decimal(n);
+    append_spaced(&mut text, kind);
+    append_spaced(&mut text, answer);
+    text.byte(b'\n');
+    text.end()
 }
 
 // What the lines give.

@@ -3,10 +3,10 @@ ghost use Rattle.std.specs.Prelude.{◌≡◌, ◌≤◌, length};
 ghost use Rattle.std.proofs.lemmas.List.Edits.{sets};
 ghost use Rattle.model.specs.Transcript.{lines, transcript};
 
-use crate::last::write_last;
+use crate::last::append_last;
 use crate::steps::write_steps;
-use decimal_text::bytes::write_bytes;
-use text_lines::shards::write_shard;
+use decimal_text::text::Text;
+use text_lines::shards::append_shard;
 
 // A longer log is too long.
 const LONGEST_LOG: usize = 16384;
@@ -23,7 +23,9 @@ pub fn write_text(log: &[u8], out: &mut [u8]) -> usize
     ensures out_after { out.new ≡ sets out.old 0 (transcript log.now) }
 {
     if LONGEST_LOG < log.len() {
-        return write_bytes(out, 0, b"too long\n");
+        let mut text = Text::new(out, 0);
+        text.bytes(b"too long\n");
+        return text.end();
     }
     write_lines(log, out)
 }
@@ -38,8 +40,9 @@ fn write_lines(log: &[u8], out: &mut [u8]) -> usize
     let plan: [u64; 6] = [1, 3, 0, 0, 12, 2];
     setup::initial::write_shards(&mut state, &plan, SHARDS);
     let p = write_steps(&mut state, log, out);
-    let stop = p.stop;
-    let a = write_shard(out, p.end, &state, 0);
-    let b = write_shard(out, a, &state, 1);
-    write_last(out, b, stop, p.tried, p.rejected, p.bytes)
+    let mut text = Text::new(out, p.end);
+    append_shard(&mut text, &state, 0);
+    append_shard(&mut text, &state, 1);
+    append_last(&mut text, p.stop, p.tried, p.rejected, p.bytes);
+    text.end()
 }

@@ -1,11 +1,11 @@
 -- A rejection is the one of its number, and no rejection has number 0.
 use Prim.Native.Nat.{ℕ, zero, suc}
 use mathlib.Core.Path.{◌≡◌, refl, sym}
-use mathlib.Core.Bool.{Bool, true, false, cond, true≢false}
+use mathlib.Core.Bool.{Bool, true, false, cond, not, true≢false}
 use lib.Dec.{ltb, eqb}
 use native.Mathlib.Omega.{arith}
 use borrow.Author.Tests.{eqb-true, ltb-true}
-use Rattle.std.specs.Prelude.{Result, Ok, Err}
+use Rattle.std.specs.Prelude.{Result, Ok, Err, is_err}
 use Rattle.types.specs.declared.rejection.Rejection.{Rejection}
 use Rattle.types.specs.declared.rejection.Rejection.TheVariants.{StateLength, Plan, KeptKind, UnknownKind, LogEnds, NumberForm, OutOfRange, OutputLength, NotWellFormed, NotInstalled, NotMember, WrongMode, NoSource, IsOrderer, EntryHeld, HistoryFull, NotSequencer, NotLonger, NotAlike, NoIssue, WrongIndex, IssuedBefore, RivalIssue, NotWedged}
 use Rattle.types.specs.Rejections.{rejection_number, numbered, answer_number, answered}
@@ -105,3 +105,8 @@ answered_number {A} n x h = go (eqb n 0) refl
 pub rejected_answer : {A : Type 0} (r : Rejection) (x : A) → Err r ≡ answered (rejection_number r) x
 unfolding answered
 rejected_answer r x = rw (number_not_0 r, numbered_back r)
+
+-- an answer is an error where its number is not 0
+pub error_number : {A : Type 0} (r : Result A Rejection) → eqb (answer_number r) 0 ≡ not (is_err r)
+error_number (Ok x) = refl
+error_number (Err e) = number_not_0 e

@@ -53,3 +53,6 @@ module _ (w : List ℕ) (Z z : ℕ) (fits : z * 2112 + 2112 ≤ length w) where
       → true ≡ zeros (rest_words w z) → all_below 8 (is_configuration_of w Z z) ≡ is_shard w Z z
   only_configurations e l m r =
       rw (shard_words_lem, ← e, le-leb 1 (count_word w z) l, le-leb (count_word w z) 8 m, ← r) (sym (and-true (all_below 8 (is_configuration_of w Z z))))
+
+-- what the tests say, made in turn
+pub ruleset shard_tests = (wrong_sequencer, too_few, too_many, some_rest, only_configurations)

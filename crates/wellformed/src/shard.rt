@@ -17,7 +17,7 @@ pub fn is_sequencer(shards: usize, z: usize, q: u64) -> bool
 }
 
 // Whether shard z is well-formed.
-#[tactic(auto, using(crate::proofs::Shards::wrong_sequencer, crate::proofs::Shards::too_few, crate::proofs::Shards::too_many, crate::proofs::Shards::some_rest, crate::proofs::Shards::only_configurations))]
+#[tactic(auto, using(crate::proofs::Shards::shard_tests))]
 pub fn is_shard(state: &[u64], shards: usize, z: usize) -> bool
     requires { z * shard_words + shard_words ≤ length state.now }
     ensures { result ≡ is_shard state.now shards z }

@@ -162,6 +162,9 @@ module _ (w : List ℕ) (Z z j : ℕ) where
       let n : first_place z j + 256 - first_place z j ≡ 256 = omega arith in
       rw (not_in_place h, m, o) (ap (λ (i : ℕ). zeros (take i (drop (first_place z j) w))) n ∙ none f ∙ sym (and-true _))
 
+-- what the tests say, made in turn
+pub ruleset configuration_tests = (improper, wrong_parts, proper_parts, proper_few, some_members, some_orderer, no_members)
+
 -- ---- the configurations before are well-formed, so the one before has few members
 
 pub few_before : (w : List ℕ) (Z z j : ℕ) → true ≡ all_below j (is_configuration_of w Z z) → FewBefore w z j

@@ -55,7 +55,8 @@ module _ (w : List ℕ) (Z j from : ℕ) (fits : from + 64 ≤ length w) where
   unfolding part
   long = ap length same_words ∙ part_length 64 from w fits
 
-  two_parts : is_part Z j true (part w from) ≡ (is_shape j (words_at w from) && all_of (is_entry Z) (take (get_or (words_at w from) 1 0) (drop 8 (words_at w from))))
+  two_parts : is_part Z j true (part w from)
+      ≡ (is_shape j (words_at w from) && all_of (is_entry Z) (take (get_or (words_at w from) 1 0) (drop 8 (words_at w from))))
   two_parts = ap (is_part Z j true) (sym same_words) ∙ in_parts Z j (words_at w from) long
 
   pub misshapen : false ≡ is_shape j (words_at w from) → false ≡ is_part Z j true (part w from)

@@ -52,7 +52,7 @@ pub fn all_parts(state: &[u64], shards: usize, j: usize, place: usize, size: usi
 }
 
 // Whether configuration j of shard z is well-formed.
-#[tactic(auto, using(crate::proofs::Configurations::improper, crate::proofs::Configurations::wrong_parts, crate::proofs::Configurations::proper_parts, crate::proofs::Configurations::proper_few, crate::proofs::Configurations::some_members, crate::proofs::Configurations::some_orderer, crate::proofs::Configurations::no_members))]
+#[tactic(auto, using(crate::proofs::Configurations::configuration_tests))]
 pub fn is_configuration_of(state: &[u64], shards: usize, z: usize, j: usize) -> bool
     requires shard_words_in_bounds { (z * shard_words + shard_words ≤ length state.now) × (j < 8) }
     requires few_before { FewBefore state.now z j }

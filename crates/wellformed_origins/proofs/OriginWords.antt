@@ -55,6 +55,9 @@ module _ (w : List ℕ) (z j k : ℕ) where
       ap (names_source w z j) (sym (origin_word_lem w (place z j k)))
       ∙ sym (has_source w z j (replica_at w (place z j k)) (omega (arith, h)) (pending_word w (place z j k) ∙ ne_eqb (mode_word w z j k) 1 e))
 
+-- what the tests say, made in turn
+pub ruleset origin_tests = (first_origin, waiting_origin, other_origin)
+
 -- ---- an origin x that names a member of the configuration before
 
 -- places by their numbers

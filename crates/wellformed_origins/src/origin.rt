@@ -45,7 +45,7 @@ fn names_source(state: &[u64], z: usize, j: usize, x: u64) -> bool
 }
 
 // Whether replica k of configuration j, a member's, has a proper origin.
-#[tactic(auto, using(crate::proofs::OriginWords::first_origin, crate::proofs::OriginWords::waiting_origin, crate::proofs::OriginWords::other_origin), unfolding(model::specs::Layout::place))]
+#[tactic(auto, using(crate::proofs::OriginWords::origin_tests), unfolding(model::specs::Layout::place))]
 fn is_origin_of(state: &[u64], z: usize, j: usize, k: usize) -> bool
     requires shard_words_in_bounds { (z * shard_words + shard_words ≤ length state.now) × (j < 8) × (k < 4) }
     requires few_before { FewBefore state.now z j }

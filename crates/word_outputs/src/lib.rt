@@ -3,5 +3,4 @@
 #![tactic(auto)]
 
 pub mod tally_words;
-pub mod usual;
 pub mod words;

@@ -1,87 +1,79 @@
 // Words at the start of an output.
-ghost use Rattle.types.specs.Rejections.{answer_number};
-ghost use Rattle.std.specs.Prelude.{◌≡◌, [], ◌∷◌, ◌≤◌, length};
+ghost use Rattle.std.specs.Prelude.{◌≡◌, ◌≤◌, length};
 ghost use Rattle.std.proofs.lemmas.List.Edits.{sets};
-ghost use Rattle.model.specs.Results.{stop_number};
-ghost use Rattle.word_outputs.specs.WordOutputs.{reported_words, writing_word, listing_word};
+ghost use Rattle.types.specs.Rejections.{answer_number};
+ghost use Rattle.model.specs.Results.{report_number, stop_code};
+ghost use Rattle.word_outputs.specs.WordOutputs.{step_words, words_of, reported_words, count_word};
 
-use stable_entries::Listing;
-use types::{Report, Stop, Writing};
+use types::rejection::{Rejection, number_of};
+use types::step::Step;
+use types::{Report, Stop};
+
+// How many words a report has, and a step that was read.
+pub const REPORT_WORDS: usize = 4;
+
+pub const STEP_WORDS: usize = 6;
+
+// How a replay stopped, as a word: ended 0, spent 1, damaged 2.
+fn stop_word(stop: Stop) -> u64
+    ensures { result ≡ stop_code stop }
+{
+    match stop {
+        Stop::Ended => 0,
+        Stop::Spent => 1,
+        Stop::Damaged(_) => 2,
+    }
+}
 
 // The four words of a report.
-pub fn put_report(out: &mut [u64], stop: u64, tried: u64, rejected: u64, bytes: u64)
+pub fn put_report(out: &mut [u64], report: Report)
     requires { 4 ≤ length out.old }
-    ensures { out.new ≡ sets out.old 0 (stop ∷ tried ∷ rejected ∷ bytes ∷ []) }
+    ensures { out.new ≡ sets out.old 0 (words_of report) }
 {
-    out[0] = stop;
-    out[1] = tried;
-    out[2] = rejected;
-    out[3] = bytes;
+    let words = [
+        stop_word(report.stop),
+        report.tried,
+        report.rejected,
+        report.bytes,
+    ];
+    out[..REPORT_WORDS].copy_from_slice(&words);
 }
 
 // The report of a replay, and 0 or the number of the damage; or the rejection, and no word.
-pub fn put_replay(out: &mut [u64], report: Report) -> u64
+pub fn put_replay(out: &mut [u64], answer: Result<Report, Rejection>) -> u64
     requires { 4 ≤ length out.old }
-    ensures value { result ≡ stop_number report.stop }
-    ensures out_after { out.new ≡ sets out.old 0 (reported_words report) }
+    ensures value { result ≡ report_number answer }
+    ensures out_after { out.new ≡ sets out.old 0 (reported_words answer) }
 {
-    let stop = report.stop;
-    match stop {
-        Stop::Ended => {
-            put_report(out, 0, report.tried, report.rejected, report.bytes);
-            0
+    match answer {
+        Ok(report) => {
+            put_report(out, report);
+            match report.stop {
+                Stop::Damaged(rejection) => u64::from(rejection),
+                Stop::Ended | Stop::Spent => 0,
+            }
         }
-        Stop::Spent => {
-            put_report(out, 1, report.tried, report.rejected, report.bytes);
-            0
-        }
-        Stop::Damaged(n) => {
-            put_report(out, 2, report.tried, report.rejected, report.bytes);
-            n
-        }
-        Stop::Rejected(n) => n,
+        Err(rejection) => u64::from(rejection),
     }
 }
 
-// The six words of a step that was read.
-pub fn put_step(out: &mut [u64], kind: u64, a: u64, b: u64, c: u64, d: u64, next: u64)
+// The six words of a step that was read: its numbers, and the position after it.
+pub fn put_step(out: &mut [u64], step: Step, next: u64)
     requires { 6 ≤ length out.old }
-    ensures { out.new ≡ sets out.old 0 (kind ∷ a ∷ b ∷ c ∷ d ∷ next ∷ []) }
+    ensures { out.new ≡ sets out.old 0 (step_words step next) }
 {
-    out[0] = kind;
-    out[1] = a;
-    out[2] = b;
-    out[3] = c;
-    out[4] = d;
-    out[5] = next;
+    let words = [step.kind, step.a, step.b, step.c, step.d, next];
+    out[..STEP_WORDS].copy_from_slice(&words);
 }
 
-// The count of the bytes that were written, and 0; or the rejection, and no word.
-pub fn put_writing(out: &mut [u64], writing: Writing) -> u64
+// The count of what was written or copied, and 0; or the rejection, and no word.
+pub fn put_count(out: &mut [u64], answer: Result<usize, Rejection>) -> u64
     requires { 1 ≤ length out.old }
-    ensures value { result ≡ answer_number writing }
-    ensures out_after { out.new ≡ sets out.old 0 (writing_word writing) }
+    ensures value { result ≡ answer_number answer }
+    ensures out_after { out.new ≡ sets out.old 0 (count_word answer) }
 {
-    match writing {
-        Writing::Bytes(n) => {
-            out[0] = n as u64;
-            0
-        }
-        Writing::Rejected(r) => r,
+    if let Ok(count) = answer {
+        out[0] = count as u64;
     }
-}
-
-// The same of a list that was copied.
-pub fn put_listing(out: &mut [u64], listing: Listing) -> u64
-    requires { 1 ≤ length out.old }
-    ensures value { result ≡ answer_number listing }
-    ensures out_after { out.new ≡ sets out.old 0 (listing_word listing) }
-{
-    match listing {
-        Listing::Entries(n) => {
-            out[0] = n as u64;
-            0
-        }
-        Listing::Rejected(r) => r,
-    }
+    number_of(&answer)
 }

@@ -15,11 +15,7 @@ overflow_add-sum c =
     omega (arith, t, history_bytes a.shard a.entries.now, c.requires)
 
 pub loop-i-preserved : goal.loop-i-preserved
-loop-i-preserved c =
-    let a = c.args in
-    row_measured a.shard a.entries.now (omega arith) c.loop-i.invariant c.loop-i-test.true c.row_length-sum.ensures
+loop-i-preserved c = row_measured c.args.shard c.args.entries.now (omega arith) c.loop-i.invariant c.loop-i-test.true c.row_length-sum.ensures
 
 pub returns : goal.returns
-returns c =
-    let a = c.args in
-    measure_end (history_parts a.shard a.entries.now) c.loop-i.invariant c.loop-i-test.false
+returns c = measure_end (history_parts c.args.shard c.args.entries.now) c.loop-i.invariant c.loop-i-test.false

@@ -1,15 +1,7 @@
 -- `install_steps::next::install_next` meets its contract.
-use native.Mathlib.Omega.{arith}
 use mathlib.Core.Path.{◌∙◌}
-use lib.ListN.{length-set}
 use Rattle.install_steps.proofs.InstallStores.{next_unused, next_stored}
 use Rattle.install_steps.proofs.next.install_next.Goals as goal
-
-pub bounds-state-at-3 : goal.bounds-state-at-3
-bounds-state-at-3 c = simp length-set (omega arith)
-
-pub bounds-state-at-4 : goal.bounds-state-at-4
-bounds-state-at-4 c = simp length-set (omega arith)
 
 pub make_pending-requires : goal.make_pending-requires
 make_pending-requires c = rw c.size.ensures (next_unused c.requires)

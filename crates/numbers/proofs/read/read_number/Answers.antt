@@ -1,14 +1,21 @@
 -- `read_number` meets its contract: no byte, one byte, or several. Assumes nothing.
 use native.Mathlib.Omega.{arith}
-use mathlib.Core.Path.{sym, ◌∙◌}
+use mathlib.Core.Path.{◌≡◌, sym, ◌∙◌}
+use lib.ListN.{get_or}
 use Rattle.numbers.proofs.FirstByte.{read_none, read_one, read_several}
 use Rattle.numbers.proofs.read.read_number.Goals as goal
 
-pub returns-then-log-at : goal.returns-then-log-at
-returns-then-log-at c = sym (read_none _ _ c.if-log-at.true)
+pub returns-in_default : goal.returns-in_default
+returns-in_default c = sym (read_none _ _ c.in_default.ensures.lookup.3)
 
-pub returns-then-first-lt128 : goal.returns-then-first-lt128
-returns-then-first-lt128 c = sym (read_one _ _ c.if-log-at.false (omega arith))
+pub returns-then-first-lt-TOP_BIT : goal.returns-then-first-lt-TOP_BIT
+returns-then-first-lt-TOP_BIT c =
+    let here = c.in-Some.ensures.lookup.3 in
+    let first : c.from-first.result ≡ get_or c.args.log.now c.args.at 0 = c.from-first.ensures ∙ here.1 0 in
+    rw first (sym (read_one _ _ here.0 (omega arith)))
 
 pub returns : goal.returns
-returns c = c.read_more.ensures ∙ sym (read_several _ _ c.if-log-at.false (omega arith))
+returns c =
+    let here = c.in-Some.ensures.lookup.3 in
+    let first : c.from-first.result ≡ get_or c.args.log.now c.args.at 0 = c.from-first.ensures ∙ here.1 0 in
+    rw first at c.read_more.ensures ∙ sym (read_several _ _ here.0 (omega arith))

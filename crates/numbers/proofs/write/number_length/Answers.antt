@@ -1,19 +1,20 @@
 -- `number_length` meets its contract, one law for each count. Assumes nothing.
+use native.Mathlib.Omega.{arith}
 use mathlib.Core.Path.{sym}
 use Rattle.numbers.proofs.NumberLengths.{length_one, length_two, length_three, length-four, length-five}
 use Rattle.numbers.proofs.write.number_length.Goals as goal
 
-pub returns-then-n-lt128 : goal.returns-then-n-lt128
-returns-then-n-lt128 c = sym (length_one _ c.if-n-lt128.true)
+pub returns-in-0-to-127 : goal.returns-in-0-to-127
+returns-in-0-to-127 c = sym (length_one _ (omega arith))
 
-pub returns-then-n-lt16384 : goal.returns-then-n-lt16384
-returns-then-n-lt16384 c = sym (length_two _ c.if-n-lt128.false c.if-n-lt16384.true)
+pub returns-in-128-to-16383 : goal.returns-in-128-to-16383
+returns-in-128-to-16383 c = sym (length_two _ (omega arith) (omega arith))
 
-pub returns-then-n-lt2097152 : goal.returns-then-n-lt2097152
-returns-then-n-lt2097152 c = sym (length_three _ c.if-n-lt16384.false c.if-n-lt2097152.true)
+pub returns-in-16384-to-2097151 : goal.returns-in-16384-to-2097151
+returns-in-16384-to-2097151 c = sym (length_three _ (omega arith) (omega arith))
 
-pub returns-then-n-lt268435456 : goal.returns-then-n-lt268435456
-returns-then-n-lt268435456 c = sym (length-four _ c.if-n-lt2097152.false c.if-n-lt268435456.true)
+pub returns-in-2097152-to-268435455 : goal.returns-in-2097152-to-268435455
+returns-in-2097152-to-268435455 c = sym (length-four _ (omega arith) (omega arith))
 
-pub returns : goal.returns
-returns c = sym (length-five _ c.if-n-lt268435456.false)
+pub returns-in_default : goal.returns-in_default
+returns-in_default c = sym (length-five _ (omega arith))

@@ -1,5 +1,4 @@
 -- `records::text::text_length` meets its contract.
-use Prim.Native.Nat.{◌-◌}
 use lib.ListN.{length}
 use Rattle.decimal_text.proofs.PartLoops.{Measured}
 use Rattle.csv_rows.specs.Csv.{csv}
@@ -8,6 +7,3 @@ use Rattle.records.proofs.text.text_length.Given as goal
 
 abbrev pub invariant-loop-shard : goal.invariant-loop-shard
 invariant-loop-shard l = Measured l.shards (shards_left l.state l.shards) (length (csv l.state)) l.sum l.shard
-
-abbrev pub decreases-loop-shard : goal.decreases-loop-shard
-decreases-loop-shard l = l.shards - l.shard

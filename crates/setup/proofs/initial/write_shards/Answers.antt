@@ -1,11 +1,10 @@
 -- Answers of `write_shards`.
 use Prim.Native.Nat.{◌*◌}
-use native.Mathlib.Omega.{arith}
 use mathlib.Core.Path.{◌≡◌}
 use lib.ListN.{length}
 use Rattle.model.specs.Setup.{plan_sequencer, plan_members, plan_orderer}
 use Rattle.setup.proofs.InitialParts.{zeros-length}
-use Rattle.setup.proofs.InitialShards.{planned_shard, none_written, next_written, all_written, still_zero}
+use Rattle.setup.proofs.InitialShards.{planned_shard, none_written, next_written, still_zero}
 use borrow.Author.Rules.{rules}
 use Rattle.setup.proofs.initial.write_shards.Goals as goal
 
@@ -28,8 +27,3 @@ loop-z-preserved c =
     let long : length c.args.state.now ≡ c.args.shards * 2112 = zeros-length c.args.state.now (c.args.shards * 2112) c.requires.0 in
     next_written c.args.shards c.args.plan.now c.args.state.now (long) c.loop-z.z c.loop-z.state
     c.write_shard.new.words (search rules) c.write_shard.ensures (search rules) c.loop-z.invariant
-
-pub returns : goal.returns
-returns c =
-    let long : length c.args.state.now ≡ c.args.shards * 2112 = zeros-length c.args.state.now (c.args.shards * 2112) c.requires.0 in
-    all_written c.args.shards c.args.plan.now c.args.state.now (long) c.loop-z.z c.loop-z.state (omega arith) c.loop-z.invariant

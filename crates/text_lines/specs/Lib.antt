@@ -1,2 +1,0 @@
--- The room that lines need.
-pub mod LineRoom
