@@ -26,6 +26,7 @@ use Rattle.lookup.specs.Ready.{Ready, ReadyHost}
 use Rattle.lookup.specs.FoundReplicas.{found_of}
 use Rattle.step_numbers.specs.StepRanges.{is_index_of}
 use Rattle.lookup.proofs.Formed.{formed_of}
+use Rattle.histories.proofs.Answered.{answered_ok, answered_err}
 use Rattle.histories.specs.NamedReplicas.{is_replica_name, replica_checks, found_named}
 
 -- a shard, an index and a host that are in range
@@ -57,10 +58,13 @@ module _ (w : List ℕ) (z i h : ℕ) where
   abbrev Z : ℕ
   Z = shards_of (length w)
 
+  abbrev place : ℕ
+  place = replica_place (configuration w z (i - 1)) h
+
   -- a rejection of the checks has no place
   rejected_as : (r : Rejection) → first_of (replica_checks w z i h) ≡ rejection_number r → Err r ≡ found_named w z i h
   unfolding found_named
-  rejected_as r e = rw e (rejected_answer r (replica_place (configuration w z (i - 1)) h))
+  rejected_as r e = rw e (rejected_answer r place)
 
   pub no_length : Z ≡ 0 → Err StateLength ≡ found_named w z i h
   unfolding replica_checks first_of is_state_length
@@ -90,11 +94,19 @@ module _ (w : List ℕ) (z i h : ℕ) where
         unfolding found_named found_of replica_checks first_of is_state_length
         found_as =
             rw (le-leb 2 Z two, e, f)
-            (chosen (is_installed w z (i - 1)) (has_member (members w z (i - 1)) h) (replica_place (configuration w z (i - 1)) h))
+            (chosen (is_installed w z (i - 1)) (has_member (members w z (i - 1)) h) place)
 
-  pub rejection_is : {r : Rejection} → Err r ≡ found_named w z i h → first_of (replica_checks w z i h) ≡ rejection_number r
-  unfolding found_named replica_checks
-  rejection_is {r} e = sym (ap (answer_number {A = ℕ}) e ∙ answered_number (first_of (replica_checks w z i h)) _ (first_below (replica_checks w z i h) refl))
+  pub below : ltb (first_of (replica_checks w z i h)) 25 ≡ true
+  unfolding replica_checks
+  below = first_below (replica_checks w z i h) refl
+
+  pub found_not : {r : Rejection} → Err r ≡ found_named w z i h → first_of (replica_checks w z i h) ≡ rejection_number r
+  unfolding found_named
+  found_not e = answered_err _ place below e
+
+  pub found_at : {p : ℕ} → Ok p ≡ found_named w z i h → (first_of (replica_checks w z i h) ≡ 0) × (p ≡ place)
+  unfolding found_named
+  found_at e = answered_ok _ place e
 
 -- a replica that was found is that of a member
 pub record IsNamed (w : List ℕ) (z i h : ℕ) : Type 0 where
@@ -113,19 +125,3 @@ is_named w z i h e =
       there = p.1.1.1.0;
       member = p.1.1.1.1.0;
     }
-
--- .. and its place is known
-pub found_at : (w : List ℕ) (z i h : ℕ) {p : ℕ} → Ok p ≡ found_named w z i h
-    → (first_of (replica_checks w z i h) ≡ 0) × (p ≡ replica_place (configuration w z (i - 1)) h)
-unfolding found_named answered
-found_at w z i h {p} e = go (eqb n 0) refl e
-  where
-    n : ℕ
-    n = first_of (replica_checks w z i h)
-
-    at : ℕ
-    at = replica_place (configuration w z (i - 1)) h
-
-    go : (t : Bool) → eqb n 0 ≡ t → Ok p ≡ cond {A = Result ℕ Rejection} t (Ok at) (Err (numbered n)) → (n ≡ 0) × (p ≡ at)
-    go true q f = (eqb-true n 0 q, ok_is f)
-    go false q f = absurd (ok_err f)

@@ -23,7 +23,7 @@ use Rattle.stable_entries.proofs.Stable.{Settled, host_settled}
 use Rattle.stable_entries.proofs.Listings.{rejects, told}
 use Rattle.types.proofs.Rejections.{number_not_0}
 use borrow.Author.Tests.{eqb-false}
-use Rattle.histories.proofs.NamedReplicas.{IsNamed, is_named, found_at, rejection_is}
+use Rattle.histories.proofs.NamedReplicas.{IsNamed, is_named, found_at, found_not}
 
 -- what is answered and left, in numbers and as a value
 abbrev Answers : List ℕ → ℕ → ℕ → ℕ → List ℕ → Written → List ℕ → Type 0
@@ -43,7 +43,7 @@ module _ (w : List ℕ) (z i h : ℕ) (out : List ℕ) where
   pub rejects_named : {x : Rejection} → Err x ≡ found_named w z i h → Answers w z i h out (Err x) out
   unfolding prefix_listing after_prefix prefix_rejection
   rejects_named {x} e =
-      let is = rejection_is w z i h e in
+      let is = found_not w z i h e in
       let q = first_before (replica_checks w z i h) (has_room (shown w z i h) out ∷ []) (λ m. eqb-false _ _ (number_not_0 x) (sym is ∙ m)) ∙ is in
       let p = rejects x (shown w z i h) out q in
       answers p.0 p.1

@@ -8,7 +8,7 @@ use lib.ListN.{length, get_or}
 use borrow.Author.Tests.{eq-eqb, ne_eqb}
 use Rattle.std.specs.Prelude.{Ok, Err}
 use Rattle.types.specs.declared.rejection.Rejection.{Rejection}
-use Rattle.types.specs.Rejections.{answered}
+use Rattle.types.specs.Rejections.{rejection_number, answered}
 use Rattle.types.proofs.Rejections.{rejected_answer}
 use Rattle.model.specs.Replicas.{is_pending}
 use Rattle.model.specs.Layout.{replica_at}
@@ -19,13 +19,23 @@ use Rattle.lookup.proofs.FoundReplicas.{member_placed}
 use Rattle.arrayvec.specs.ArrayVec.{ArrayVec}
 use Rattle.histories.specs.NamedReplicas.{found_named}
 use Rattle.histories.specs.Traces.{sources_of, trace_of, trace_rejection, traced, Started}
-use Rattle.histories.proofs.NamedReplicas.{IsNamed, is_named, found_at, rejection_is}
+use Rattle.histories.proofs.NamedReplicas.{IsNamed, is_named, below, found_at, found_not}
+use Rattle.histories.proofs.Answered.{answered_ok, answered_err}
 use Rattle.histories.proofs.Traces.{started}
 
 module _ (w : List ℕ) (z i h : ℕ) where
+  -- what an answer tells
+  pub no_trace : {r : Rejection} → Err r ≡ traced w z i h → trace_rejection w z i h ≡ rejection_number r
+  unfolding traced trace_rejection
+  no_trace e = answered_err _ _ (below w z i h) e
+
+  pub its_trace : {t : ArrayVec ℕ} → Ok t ≡ traced w z i h → (trace_rejection w z i h ≡ 0) × (t.items ≡ trace_of w z (i - 1) h)
+  unfolding traced
+  its_trace e = let p = answered_ok _ _ e in (p.0, ap (λ (t : ArrayVec ℕ). t.items) p.1)
+
   pub rejected : {r : Rejection} → Err r ≡ found_named w z i h → Err r ≡ traced w z i h
   unfolding traced trace_rejection
-  rejected {r} e = rw (rejection_is w z i h e) (rejected_answer r (record { items = trace_of w z (i - 1) h }))
+  rejected {r} e = rw (found_not w z i h e) (rejected_answer r (record { items = trace_of w z (i - 1) h }))
 
   module _ {p : ℕ} (e : Ok p ≡ found_named w z i h) where
     at : IsNamed w z i h
