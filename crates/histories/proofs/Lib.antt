@@ -1,4 +1,5 @@
 -- Laws of the lists that are read off a state.
+pub mod Answered
 pub mod StableHistories
 pub mod NamedReplicas
 pub mod StablePrefixes

@@ -1,12 +1,18 @@
 -- The ladder of finding a named replica, and what it says where it is found.
 use Prim.Native.Nat.{ℕ, ◌-◌, ◌≤◌, ◌<◌}
 use native.Mathlib.Omega.{arith}
-use mathlib.Core.Path.{◌≡◌, refl, sym, ◌∙◌}
+use mathlib.Core.Path.{◌≡◌, refl, sym, ap, ◌∙◌}
 use mathlib.Core.Bool.{Bool, true, false, cond}
 use mathlib.Core.List.{List, [], ◌∷◌}
 use lib.Dec.{leb, ltb, eqb}
 use lib.ListN.{length}
-use borrow.Author.Tests.{leb-true, ltb-true, le-leb, ne_eqb}
+use borrow.Author.Tests.{leb-true, ltb-true, eqb-true, le-leb}
+use Rattle.std.specs.Prelude.{Result, Ok, Err}
+use Rattle.types.specs.declared.rejection.Rejection.{Rejection}
+use Rattle.types.specs.declared.rejection.Rejection.TheVariants.{StateLength, OutOfRange, NotWellFormed, NotInstalled, NotMember}
+use Rattle.types.specs.Rejections.{rejection_number, numbered, answered, answer_number}
+use Rattle.types.proofs.OkErr.{ok_is, ok_err}
+use Rattle.types.proofs.Rejections.{answered_number, rejected_answer}
 use Rattle.model.specs.Checks.{first_of}
 use Rattle.types.specs.Members.{is_host, has_member}
 use Rattle.model.specs.Layout.{shards_of, is_state_length, is_installed, members}
@@ -15,12 +21,12 @@ use Rattle.types.specs.ReplicaPlace.{replica_place}
 use Rattle.model.specs.WellFormed.{well_formed}
 use Rattle.model.proofs.Tests.{all_pass}
 use Rattle.model.proofs.Checks.{passed}
-use Rattle.model.proofs.Lengths.{several}
-use Rattle.lookup.specs.declared.Found.{Found}
+use Rattle.model.proofs.Results.{first_below}
 use Rattle.lookup.specs.Ready.{Ready, ReadyHost}
 use Rattle.lookup.specs.FoundReplicas.{found_of}
 use Rattle.step_numbers.specs.StepRanges.{is_index_of}
 use Rattle.lookup.proofs.Formed.{formed_of}
+use Rattle.histories.proofs.Answered.{answered_ok, answered_err}
 use Rattle.histories.specs.NamedReplicas.{is_replica_name, replica_checks, found_named}
 
 -- a shard, an index and a host that are in range
@@ -41,79 +47,81 @@ named Z z i h e =
       host = ltb-true h 16 p.1.1.1.0;
     }
 
-abbrev at : ℕ → ℕ → Found
-at answer place = record { answer = answer; place = place }
-
-found_same : {r s : Found} → r.answer ≡ s.answer → r.place ≡ s.place → r ≡ s
-found_same p q = λ i. record { answer = p i; place = q i }
-
 -- what the look-up chooses by its two tests
-chosen : (s t : Bool) (p : ℕ)
-    → (cond s (cond t 0 11) 10 ≡ (cond s (cond t (at 0 p) (at 11 0)) (at 10 0)).answer)
-    × ((cond s (cond t (at 0 p) (at 11 0)) (at 10 0)).place ≡ cond (eqb (cond s (cond t (at 0 p) (at 11 0)) (at 10 0)).answer 0) p 0)
-chosen true true p = (refl, refl)
-chosen true false p = (refl, refl)
-chosen false t p = (refl, refl)
+chosen : (s t : Bool) (p : ℕ) → cond s (cond t (Ok p) (Err NotMember)) (Err NotInstalled) ≡ answered (cond s (cond t 0 11) 10) p
+unfolding answered numbered
+chosen true true p = refl
+chosen true false p = refl
+chosen false t p = refl
 
 module _ (w : List ℕ) (z i h : ℕ) where
   abbrev Z : ℕ
   Z = shards_of (length w)
 
-  -- a rejection has no place
-  pub nowhere_as : (k : ℕ) → (k ≡ 0 → ⊥) → first_of (replica_checks w z i h) ≡ k → {r : Found} → (r.answer ≡ k) × (r.place ≡ 0) → r ≡ found_named w z i h
+  abbrev place : ℕ
+  place = replica_place (configuration w z (i - 1)) h
+
+  -- a rejection of the checks has no place
+  rejected_as : (r : Rejection) → first_of (replica_checks w z i h) ≡ rejection_number r → Err r ≡ found_named w z i h
   unfolding found_named
-  nowhere_as k n e f = found_same (f.0 ∙ sym e) (simp (f.1, e, ne_eqb k 0 n))
+  rejected_as r e = rw e (rejected_answer r place)
 
-  pub no_length : Z ≡ 0 → first_of (replica_checks w z i h) ≡ 1
+  pub no_length : Z ≡ 0 → Err StateLength ≡ found_named w z i h
   unfolding replica_checks first_of is_state_length
-  no_length e = simp e
+  no_length e = rejected_as StateLength (rw e)
 
-  module _ (n : Z ≡ 0 → ⊥) where
-    pub no_name : is_replica_name Z z i h ≡ false → first_of (replica_checks w z i h) ≡ 7
+  module _ (two : 2 ≤ Z) where
+    pub no_name : is_replica_name Z z i h ≡ false → Err OutOfRange ≡ found_named w z i h
     unfolding replica_checks first_of is_state_length
-    no_name e = simp (le-leb 2 Z (several (length w) n), e)
+    no_name e = rejected_as OutOfRange (rw (le-leb 2 Z two, e))
 
     module _ (e : is_replica_name Z z i h ≡ true) where
-      pub no_form : well_formed w ≡ false → first_of (replica_checks w z i h) ≡ 9
+      pub no_form : well_formed w ≡ false → Err NotWellFormed ≡ found_named w z i h
       unfolding replica_checks first_of is_state_length
-      no_form f = simp (le-leb 2 Z (several (length w) n), e, f)
+      no_form f = rejected_as NotWellFormed (rw (le-leb 2 Z two, e, f))
 
       module _ (f : well_formed w ≡ true) where
         pub ready_host : ReadyHost w z (i - 1) h
         ready_host =
             let a = named Z z i h e in
-            record { ready = record { state = formed_of w n f; shard = a.shard; configuration = omega (arith, a.most) }; host = a.host }
+            record {
+              ready = record { state = formed_of w (λ q. omega arith) f; shard = a.shard; configuration = omega (arith, a.most) };
+              host = a.host;
+            }
 
         -- the checks that are left are those of the look-up
-        left : first_of (replica_checks w z i h) ≡ (found_of w z (i - 1) h).answer
-        unfolding replica_checks first_of is_state_length found_of
-        left =
-            simp (le-leb 2 Z (several (length w) n), e, f)
-            (chosen (is_installed w z (i - 1)) (has_member (members w z (i - 1)) h) (replica_place (configuration w z (i - 1)) h)).0
-
         pub found_as : found_of w z (i - 1) h ≡ found_named w z i h
-        unfolding found_named found_of
+        unfolding found_named found_of replica_checks first_of is_state_length
         found_as =
-            found_same (sym left)
-            (rw left (chosen (is_installed w z (i - 1)) (has_member (members w z (i - 1)) h) (replica_place (configuration w z (i - 1)) h)).1)
+            rw (le-leb 2 Z two, e, f)
+            (chosen (is_installed w z (i - 1)) (has_member (members w z (i - 1)) h) place)
 
--- a replica that was found is that of a member, and its place is known
+  pub below : ltb (first_of (replica_checks w z i h)) 25 ≡ true
+  unfolding replica_checks
+  below = first_below (replica_checks w z i h) refl
+
+  pub found_not : {r : Rejection} → Err r ≡ found_named w z i h → first_of (replica_checks w z i h) ≡ rejection_number r
+  unfolding found_named
+  found_not e = answered_err _ place below e
+
+  pub found_at : {p : ℕ} → Ok p ≡ found_named w z i h → (first_of (replica_checks w z i h) ≡ 0) × (p ≡ place)
+  unfolding found_named
+  found_at e = answered_ok _ place e
+
+-- a replica that was found is that of a member
 pub record IsNamed (w : List ℕ) (z i h : ℕ) : Type 0 where
   pub in_range : Named (shards_of (length w)) z i h
   pub ready : Ready w z (i - 1)
   pub there : is_installed w z (i - 1) ≡ true
   pub member : has_member (members w z (i - 1)) h ≡ true
-  pub place_is : (found_named w z i h).place ≡ replica_place (configuration w z (i - 1)) h
 
-pub is_named : (w : List ℕ) (z i h : ℕ) → (found_named w z i h).answer ≡ 0 → IsNamed w z i h
-unfolding found_named replica_checks is_state_length
+pub is_named : (w : List ℕ) (z i h : ℕ) → first_of (replica_checks w z i h) ≡ 0 → IsNamed w z i h
+unfolding replica_checks is_state_length
 is_named w z i h e =
     let p = passed (replica_checks w z i h) refl e in
-    let least = leb-true 2 (shards_of (length w)) p.0 in
     record {
       in_range = named (shards_of (length w)) z i h p.1.0;
-      ready = (ready_host w z i h (λ q. omega arith) p.1.0 p.1.1.0).ready;
+      ready = (ready_host w z i h (leb-true 2 (shards_of (length w)) p.0) p.1.0 p.1.1.0).ready;
       there = p.1.1.1.0;
       member = p.1.1.1.1.0;
-      place_is = rw e;
     }

@@ -1,19 +1,23 @@
 -- The ladder of a shard's stable history: what is answered and left, by the tests that are made in turn.
 use Rattle.std.specs.Prelude.{Err}
-use Rattle.types.specs.Rejections.{Written, answer_count, answer_number}
+use Rattle.types.specs.declared.rejection.Rejection.{Rejection}
+use Rattle.types.specs.declared.rejection.Rejection.TheVariants.{StateLength, OutOfRange, NotWellFormed}
+use Rattle.types.specs.Rejections.{Written, rejection_number, answer_count, answer_number}
 use Prim.Native.Nat.{ℕ, ◌≤◌, ◌<◌}
 use native.Mathlib.Omega.{arith}
-use mathlib.Core.Path.{◌≡◌}
+use mathlib.Core.Path.{◌≡◌, refl}
 use mathlib.Core.Bool.{true, false}
-use mathlib.Core.List.{List}
+use mathlib.Core.List.{List, [], ◌∷◌}
+use lib.Dec.{ltb}
 use lib.ListN.{length}
 use borrow.Author.Tests.{le-leb, lt-ltb, le-ltb}
-use Rattle.model.specs.Checks.{first_of}
+use Rattle.model.specs.Checks.{first_of, ◌or_else◌}
 use Rattle.model.specs.Layout.{shards_of, is_state_length}
 use Rattle.model.specs.WellFormed.{well_formed}
-use Rattle.model.proofs.Lengths.{several}
+use Rattle.model.proofs.Results.{first_below}
 use Rattle.lookup.proofs.Formed.{formed_of}
 use Rattle.model.specs.StableHistory.{stable_history}
+use Rattle.stable_entries.specs.Listing.{has_room}
 use Rattle.stable_entries.specs.StableEntries.{copying_rejection, copying, after_copying}
 use Rattle.stable_entries.specs.Pick.{longest_place, OfShard}
 use Rattle.histories.specs.History.{listing_rejection, listed_count, listing, after_listing}
@@ -21,8 +25,8 @@ use Rattle.stable_entries.proofs.Longest.{picked_entries}
 use Rattle.stable_entries.proofs.Listings.{rejects, told}
 
 -- a shard of a state that passed the tests
-pub of_shard : (w : List ℕ) (z : ℕ) → (shards_of (length w) ≡ 0 → ⊥) → z < shards_of (length w) → well_formed w ≡ true → OfShard w z
-of_shard w z n h f = record { formed = formed_of w n f; shard = h }
+pub of_shard : (w : List ℕ) (z : ℕ) → 2 ≤ shards_of (length w) → z < shards_of (length w) → well_formed w ≡ true → OfShard w z
+of_shard w z two h f = record { formed = formed_of w (λ q. omega arith) f; shard = h }
 
 module _ (w : List ℕ) (z : ℕ) (out : List ℕ) where
   -- what is answered and left, in numbers and as a value
@@ -31,31 +35,41 @@ module _ (w : List ℕ) (z : ℕ) (out : List ℕ) where
       (answer_number r ≡ listing_rejection w z out)
       × ((answer_count r ≡ listed_count w z out) × ((r ≡ listing w z out) × (v ≡ after_listing w z out)))
 
+  below : ltb (listing_rejection w z out) 25 ≡ true
+  unfolding listing_rejection has_room
+  below =
+      first_below
+      (is_state_length (length w) or_else 1
+      ∷ ltb z (shards_of (length w)) or_else 7
+      ∷ well_formed w or_else 9
+      ∷ has_room (stable_history w z) out
+      ∷ [])
+      refl
+
   pub answers : {r : Written} {v : List ℕ} → r ≡ listing w z out → v ≡ after_listing w z out → Answers r v
   unfolding listing after_listing listed_count
-  answers e f = told (listing_rejection w z out) (stable_history w z) out e f
+  answers e f = told (listing_rejection w z out) (stable_history w z) out below e f
 
   -- a rejection leaves the output
-  abbrev Rejects : ℕ → Type 0
-  Rejects k = Answers (Err k) out
+  abbrev Rejects : Rejection → Type 0
+  Rejects r = Answers (Err r) out
 
-  rejects_as : (k : ℕ) → (k ≡ 0 → ⊥) → listing_rejection w z out ≡ k → Rejects k
+  rejects_as : (r : Rejection) → listing_rejection w z out ≡ rejection_number r → Rejects r
   unfolding listing after_listing
-  rejects_as k n e = let r = rejects k (stable_history w z) out n e in answers r.0 r.1
+  rejects_as r e = let p = rejects r (stable_history w z) out e in answers p.0 p.1
 
-  pub rejects_length : shards_of (length w) ≡ 0 → Rejects 1
+  pub rejects_length : shards_of (length w) ≡ 0 → Rejects StateLength
   unfolding listing_rejection first_of is_state_length
-  rejects_length e = rejects_as 1 (λ q. omega arith) (simp e)
+  rejects_length e = rejects_as StateLength (simp e)
 
-  pub rejects_shard : (shards_of (length w) ≡ 0 → ⊥) → shards_of (length w) ≤ z → Rejects 7
-  unfolding listing_rejection first_of is_state_length
-  rejects_shard n h =
-      rejects_as 7 (λ q. omega arith) (simp (le-leb 2 (shards_of (length w)) (several (length w) n), le-ltb z (shards_of (length w)) h))
+  module _ (two : 2 ≤ shards_of (length w)) where
+    pub rejects_shard : shards_of (length w) ≤ z → Rejects OutOfRange
+    unfolding listing_rejection first_of is_state_length
+    rejects_shard h = rejects_as OutOfRange (simp (le-leb 2 (shards_of (length w)) two, le-ltb z (shards_of (length w)) h))
 
-  pub rejects_form : (shards_of (length w) ≡ 0 → ⊥) → z < shards_of (length w) → well_formed w ≡ false → Rejects 9
-  unfolding listing_rejection first_of is_state_length
-  rejects_form n h f =
-      rejects_as 9 (λ q. omega arith) (simp (le-leb 2 (shards_of (length w)) (several (length w) n), lt-ltb z (shards_of (length w)) h, f))
+    pub rejects_form : z < shards_of (length w) → well_formed w ≡ false → Rejects NotWellFormed
+    unfolding listing_rejection first_of is_state_length
+    rejects_form h f = rejects_as NotWellFormed (simp (le-leb 2 (shards_of (length w)) two, lt-ltb z (shards_of (length w)) h, f))
 
   -- the tests passed leave that of the room, for the entries of the replica that the pick finds
   module _ (s : OfShard w z) {p : ℕ} (e : p ≡ longest_place w z 31) where

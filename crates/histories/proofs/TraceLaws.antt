@@ -17,7 +17,6 @@ use Rattle.model.specs.OneList.{shards, Seated}
 use Rattle.model.specs.Configuration.{replica_in}
 use Rattle.model.specs.Sources.{SourcesClaim}
 use Rattle.model.proofs.Sources.{sources}
-use Rattle.histories.specs.NamedReplicas.{found_named}
 use Rattle.histories.specs.Traces.{source_host, sources_of, trace_of, trace_rejection, Started}
 use Rattle.histories.specs.TraceLaws.{host_of, ImmutableHosts, TraceLaws}
 use Rattle.histories.proofs.NamedReplicas.{IsNamed, is_named}
@@ -25,7 +24,7 @@ use Rattle.histories.proofs.Traces.{started, names, along, next_host, sources_le
 
 -- a call that is accepted has found its replica
 there : (w : List ℕ) (z i h : ℕ) → trace_rejection w z i h ≡ 0 → IsNamed w z i h
-unfolding trace_rejection found_named
+unfolding trace_rejection
 there w z i h e = is_named w z i h e
 
 module _ (w : List ℕ) (z i h : ℕ) (e : trace_rejection w z i h ≡ 0) where

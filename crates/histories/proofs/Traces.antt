@@ -3,9 +3,9 @@ use Prim.Native.Nat.{ℕ, zero, suc, ◌+◌, ◌-◌, ◌≤◌, ◌<◌}
 use native.Mathlib.Omega.{arith}
 use mathlib.Core.Path.{◌≡◌, refl, sym, ap, subst, ◌∙◌}
 use mathlib.Core.Bool.{false}
-use mathlib.Core.List.{List, [], ◌∷◌, ◌++◌, append_assoc}
-use lib.ListN.{length, get_or, take, set, replicate, length-append}
-use lib.Seq.{set_at, take-suc, take_all, length-take-le}
+use mathlib.Core.List.{List, [], ◌∷◌, ◌++◌}
+use lib.ListN.{length, get_or, take}
+use lib.Seq.{take-suc, take_all, length-take-le}
 use borrow.Author.Tests.{ltb-true, lt-ltb}
 use Rattle.types.specs.declared.configuration.Configuration.{Configuration}
 use Rattle.model.specs.Replicas.{is_pending}
@@ -18,7 +18,7 @@ use Rattle.model.proofs.Origins.{Named, named, has_source}
 use Rattle.model.proofs.WellFormedMembers.{member_origin}
 use Rattle.lookup.proofs.ReadyFields.{formed}
 use Rattle.lookup.proofs.FoundReplicas.{member_placed}
-use Rattle.histories.specs.Traces.{source_host, sources_of, padded, Started}
+use Rattle.histories.specs.Traces.{source_host, sources_of, Started}
 use Rattle.histories.proofs.NamedReplicas.{IsNamed}
 
 -- a replica that a caller named and that is not pending is one to start from
@@ -83,21 +83,6 @@ unfolding sources_of
 sources_length w z zero h = refl
 sources_length w z (suc j) h = ap suc (sources_length w z j (source_host w z (suc j) h))
 
--- ---- the seven words
-
--- one host more
-padded_more : (l : List ℕ) (s n : ℕ) → length l ≡ n → n < 7 → set (padded l) n s ≡ padded (l ++ (s ∷ []))
-unfolding padded
-padded_more l s n e h =
-    ap (λ (k : ℕ). set (l ++ replicate k 0) n s) more ∙ set_at l 0 (replicate (6 - n) 0) s n e ∙ sym (append_assoc l (s ∷ []) (replicate (6 - n) 0))
-    ∙ ap (λ (k : ℕ). (l ++ (s ∷ [])) ++ replicate k 0) fewer
-  where
-    more : 7 - length l ≡ suc (6 - n)
-    more = omega arith
-
-    fewer : 6 - n ≡ 7 - length (l ++ (s ∷ []))
-    fewer = simp length-append (omega arith)
-
 -- ---- the loop: from configuration j down to i, where host g is
 
 module _ (w : List ℕ) (z j h : ℕ) where
@@ -105,10 +90,9 @@ module _ (w : List ℕ) (z j h : ℕ) where
   pub record Walked (i g : ℕ) (hosts : List ℕ) : Type 0 where
     pub up_to : i ≤ j
     pub host : g ≡ get_or (h ∷ sources_of w z j h) (j - i) 0
-    pub found : hosts ≡ padded (take (j - i) (sources_of w z j h))
+    pub found : hosts ≡ take (j - i) (sources_of w z j h)
 
-  pub walk_start : Walked j h (replicate 7 0)
-  unfolding padded
+  pub walk_start : Walked j h []
   walk_start =
       let e : j - j ≡ 0 = omega arith in
       record { up_to = omega arith; host = rw e; found = rw e }
@@ -119,13 +103,16 @@ module _ (w : List ℕ) (z j h : ℕ) where
       let e : j - (j - i) ≡ i = omega (arith, k.up_to) in
       rw k.host (subst (λ (n : ℕ). Started w z n (get_or (h ∷ sources_of w z j h) (j - i) 0)) e (along w z j h s (j - i) (omega arith)))
 
-  pub walk_more : j < 8 → {i g : ℕ} {hosts : List ℕ} → Walked i g hosts → 0 < i → {x : ℕ} → x ≡ source_host w z i g
-      → Walked (i - 1) x (set hosts (j - i) x)
-  walk_more b {i} {g} {hosts} k l {x} q =
+  -- so many hosts were found
+  pub walk_length : {i g : ℕ} {hosts : List ℕ} → Walked i g hosts → length hosts ≡ j - i
+  walk_length {i} k = ap length k.found ∙ length-take-le (j - i) (sources_of w z j h) (omega (arith, sources_length w z j h))
+
+  pub walk_more : {i g : ℕ} {hosts : List ℕ} → Walked i g hosts → 0 < i → {x : ℕ} → x ≡ source_host w z i g → Walked (i - 1) x (hosts ++ (x ∷ []))
+  walk_more {i} {g} {hosts} k l {x} q =
       record {
         up_to = omega (arith, k.up_to);
         host = rw next is_next;
-        found = rw (next, take-suc (sources_of w z j h) (j - i) 0 within, ← is_next, k.found) stored;
+        found = rw (next, take-suc (sources_of w z j h) (j - i) 0 within, ← is_next, k.found);
       }
     where
       within : j - i < length (sources_of w z j h)
@@ -142,15 +129,8 @@ module _ (w : List ℕ) (z j h : ℕ) where
           q ∙ ap (source_host w z i) k.host
           ∙ sym (next_host w z j h (j - i) (omega (arith, k.up_to)) ∙ ap (λ (n : ℕ). source_host w z n (get_or (h ∷ sources_of w z j h) (j - i) 0)) here)
 
-      stored : set (padded (take (j - i) (sources_of w z j h))) (j - i) x ≡ padded (take (j - i) (sources_of w z j h) ++ (x ∷ []))
-      stored =
-          padded_more (take (j - i) (sources_of w z j h)) x (j - i)
-          (length-take-le (j - i) (sources_of w z j h) (omega (arith, within)))
-          (omega arith)
-
-  pub walk_end : {i g : ℕ} {hosts : List ℕ} → Walked i g hosts → i ≤ 0 → hosts ≡ padded (sources_of w z j h)
-  walk_end {i} k l =
-      k.found ∙ ap padded (take_all (j - i) (sources_of w z j h) (omega (arith, sources_length w z j h)))
+  pub walk_end : {i g : ℕ} {hosts : List ℕ} → Walked i g hosts → i ≤ 0 → hosts ≡ sources_of w z j h
+  walk_end {i} k l = k.found ∙ take_all (j - i) (sources_of w z j h) (omega (arith, sources_length w z j h))
 
 -- ---- the words that the code reads, at the place p of the replica
 

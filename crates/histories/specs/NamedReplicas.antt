@@ -1,5 +1,7 @@
 -- A replica that a caller names by shard, index and host, and where it is in a state of which nothing is known yet.
-use Rattle.std.specs.Prelude.{ℕ, ◌-◌, Bool, cond, ◌&&◌, List, [], ◌∷◌, eqb, length}
+use Rattle.std.specs.Prelude.{ℕ, ◌-◌, Bool, ◌&&◌, List, [], ◌∷◌, length, Result}
+use Rattle.types.specs.declared.rejection.Rejection.{Rejection}
+use Rattle.types.specs.Rejections.{answered}
 use Rattle.model.specs.Checks.{Check, first_of, ◌or_else◌}
 use Rattle.types.specs.Members.{is_host, has_member}
 use Rattle.model.specs.Layout.{shards_of, is_state_length, is_installed, members}
@@ -7,7 +9,6 @@ use Rattle.model.specs.Configuration.{configuration}
 use Rattle.types.specs.ReplicaPlace.{replica_place}
 use Rattle.model.specs.WellFormed.{well_formed}
 use Rattle.step_numbers.specs.StepRanges.{is_index_of}
-use Rattle.lookup.specs.declared.Found.{Found}
 
 -- rejection 7: "zone not below Z, index not 1 to 8, a box above 15"
 unfoldable pub is_replica_name : ℕ → ℕ → ℕ → ℕ → Bool
@@ -23,10 +24,6 @@ replica_checks w z i h =
     ∷ has_member (members w z (i - 1)) h or_else 11
     ∷ []
 
--- the rejection, or 0 and the place of the replica
-unfoldable pub found_named : List ℕ → ℕ → ℕ → ℕ → Found
-found_named w z i h =
-    record {
-      answer = first_of (replica_checks w z i h);
-      place = cond (eqb (first_of (replica_checks w z i h)) 0) (replica_place (configuration w z (i - 1)) h) 0;
-    }
+-- the rejection, or the place of the replica
+unfoldable pub found_named : List ℕ → ℕ → ℕ → ℕ → Result ℕ Rejection
+found_named w z i h = answered (first_of (replica_checks w z i h)) (replica_place (configuration w z (i - 1)) h)

@@ -1,14 +1,11 @@
 -- Answers of `sources`.
 use native.Mathlib.Omega.{arith}
 use Rattle.lookup.proofs.FoundReplicas.{small_place}
-use Rattle.histories.proofs.Traces.{walk_start, walk_at, walk_more, walk_end, place_within, origin_least, host_read}
+use Rattle.histories.proofs.Traces.{walk_start, walk_at, walk_length, walk_more, walk_end, place_within, origin_least, host_read}
 use Rattle.histories.proofs.trace.sources.Goals as goal
 
 pub loop-i-init : goal.loop-i-init
-loop-i-init c = walk_start _ _ _ _
-
-pub configuration_of-requires : goal.configuration_of-requires
-configuration_of-requires c = (walk_at _ _ _ _ c.requires c.loop-i.invariant).ready.ready
+loop-i-init c = rw c.new-hosts.ensures (walk_start _ _ _ _)
 
 pub replica-place-requires : goal.replica-place-requires
 replica-place-requires c =
@@ -35,24 +32,16 @@ overflow_sub-g c =
     let s = walk_at _ _ _ _ c.requires c.loop-i.invariant in
     origin_least s c.configuration_of.ensures c.replica-place.ensures (omega arith)
 
-pub overflow_sub-hosts : goal.overflow_sub-hosts
-overflow_sub-hosts c = c.loop-i.invariant.up_to
-
-pub offset_bounds-hosts-j : goal.offset_bounds-hosts-j
-offset_bounds-hosts-j c =
-    let p = c.requires in
-    omega (arith, p.ready.ready.configuration)
-
-pub bounds-hosts-j : goal.bounds-hosts-j
-bounds-hosts-j c =
-    let p = c.requires in
-    omega (arith, p.ready.ready.configuration)
+pub push-requires : goal.push-requires
+push-requires c =
+    let n = walk_length _ _ _ _ c.loop-i.invariant in
+    (omega arith, omega (arith, n, c.requires.ready.ready.configuration))
 
 pub loop-i-preserved : goal.loop-i-preserved
 loop-i-preserved c =
     let s = walk_at _ _ _ _ c.requires c.loop-i.invariant in
-    walk_more _ _ _ _ c.requires.ready.ready.configuration c.loop-i.invariant (omega arith)
-    (host_read s c.configuration_of.ensures c.replica-place.ensures)
+    rw c.push.ensures.items
+    (walk_more _ _ _ _ c.loop-i.invariant (omega arith) (host_read s c.configuration_of.ensures c.replica-place.ensures))
 
 pub returns : goal.returns
 returns c = walk_end _ _ _ _ c.loop-i.invariant (omega arith)

@@ -3,7 +3,4 @@ use Rattle.histories.proofs.Traces.{Walked}
 use Rattle.histories.proofs.trace.sources.Given as goal
 
 abbrev pub invariant-loop-i : goal.invariant-loop-i
-invariant-loop-i l = Walked l.state l.z l.j l.host l.i l.g l.hosts
-
-abbrev pub decreases-loop-i : goal.decreases-loop-i
-decreases-loop-i l = l.i
+invariant-loop-i l = Walked l.state l.z l.j l.host l.i l.g l.hosts.items
