@@ -1,43 +1,54 @@
 -- Words compared in turns of eight: eight joined, the turns one by one, and that the words which a comparison tells of agree. Assumes nothing.
-use Prim.Native.Nat.{ℕ, zero, suc, ◌+◌, ◌-◌, ◌*◌, ◌/◌, ◌≤◌, ◌<◌}
-use native.Mathlib.Nat.{add-zero}
+use Rattle.std.proofs.Common.{◌≡◌, ℕ, zero, suc, ◌+◌, ◌-◌, ◌*◌, ◌/◌, ◌≤◌, ◌<◌, Bool, true, false, cond, ltb, eqb, List, length, get_or, take, drop, refl, sym, ap, ◌∙◌, arith, eqb-true, eq-eqb, le-ltb, lt-ltb, length-drop, length-take-le, get_or-take, get_or-drop, ext_get_or}
 use native.Mathlib.Decide.{dec_lt}
-use native.Mathlib.Omega.{arith}
-use mathlib.Core.Path.{◌≡◌, refl}
-use mathlib.Core.Bool.{Bool, true, false, cond}
-use mathlib.Core.List.{List}
-use lib.Bits.{bit_or, bit_xor}
-use lib.Dec.{ltb, eqb}
-use lib.ListN.{length, get_or}
-use borrow.Author.Tests.{lt-ltb, le-ltb}
-use Rattle.model.specs.Tests.{all_below}
-use Rattle.model.proofs.Tests.{all_below_lem}
-use Rattle.model.proofs.Joined.{or_zero, xor_zero}
+use Rattle.model.specs.Tests.{all_below, same}
+use Rattle.model.proofs.Tests.{all_below_lem, below_all}
+use Rattle.model.proofs.Ranges.{same_test}
+use Rattle.model.proofs.WellFormedParts.{same_lists, same_self}
 use Rattle.alike_words.specs.EightAtOnce.{words_alike, agreeing_from, agreeing}
 
 abbrev same_word : List ℕ → List ℕ → ℕ → Bool
 same_word a b k = eqb (get_or a k 0) (get_or b k 0)
 
 module _ (a b : List ℕ) where
-  pub eight_joined : (i : ℕ) →
-      eqb (bit_or (bit_or (bit_or (bit_or (bit_or (bit_or (bit_or (bit_xor (get_or a i 0) (get_or b i 0))
-      (bit_xor (get_or a (i + 1) 0) (get_or b (i + 1) 0))) (bit_xor (get_or a (i + 2) 0) (get_or b (i + 2) 0)))
-      (bit_xor (get_or a (i + 3) 0) (get_or b (i + 3) 0))) (bit_xor (get_or a (i + 4) 0) (get_or b (i + 4) 0)))
-      (bit_xor (get_or a (i + 5) 0) (get_or b (i + 5) 0))) (bit_xor (get_or a (i + 6) 0) (get_or b (i + 6) 0)))
-      (bit_xor (get_or a (i + 7) 0) (get_or b (i + 7) 0))) 0
-      ≡ words_alike a b i 8
-  unfolding words_alike all_below
-  eight_joined i = simp (or_zero, xor_zero, words_alike, all_below, add-zero)
+  -- eight words cut out of both lists are the same where they are alike
+  eight_alike : (i : ℕ) → i + 8 ≤ length a → i + 8 ≤ length b → same (take 8 (drop i a)) (take 8 (drop i b)) ≡ words_alike a b i 8
+  unfolding words_alike
+  eight_alike i h k =
+      same_test (same (take 8 (drop i a)) (take 8 (drop i b))) (all_below 8 (λ k. same_word a b (i + k)))
+      (λ e. below_all 8 (λ k. same_word a b (i + k))
+      (λ k l. let s = same_lists (take 8 (drop i a)) (take 8 (drop i b)) e in
+      eq-eqb (get_or a (i + k) 0) (get_or b (i + k) 0)
+      (sym (at a k l) ∙ ap (λ (l : List ℕ). get_or l k 0) s ∙ at b k l)))
+      (λ e. rw (ext_get_or 0 (take 8 (drop i a)) (take 8 (drop i b)) (long a h ∙ sym (long b k))
+      (λ k l. let m : k < 8 = omega (arith, long a h) in
+      at a k m ∙ eqb-true (get_or a (i + k) 0) (get_or b (i + k) 0) (all_below_lem 8 (λ k. same_word a b (i + k)) e k m) ∙ sym (at b k m)))
+      (same_self (take 8 (drop i b))))
+    where
+      at : (l : List ℕ) (k : ℕ) → k < 8 → get_or (take 8 (drop i l)) k 0 ≡ get_or l (i + k) 0
+      at l k h = get_or-take 8 (drop i l) k 0 h ∙ get_or-drop i l k 0
+
+      long : (l : List ℕ) → i + 8 ≤ length l → length (take 8 (drop i l)) ≡ 8
+      long l h = length-take-le 8 (drop i l) (omega (arith, length-drop i l))
+
+  -- .. in a turn from i on, and in the last one
+  pub turn_alike : (i : ℕ) {r : Bool} → r ≡ same (take (i + 8 - i) (drop i a)) (take (i + 8 - i) (drop i b))
+      → i + 8 ≤ length a → length a ≡ length b → words_alike a b i 8 ≡ r
+  turn_alike i e h l = let n : i + 8 - i ≡ 8 = omega arith in sym (rw n at e ∙ eight_alike i h (omega arith))
+
+  pub last_alike : {r : Bool} → let i : ℕ = length a - 8 in r ≡ same (take (length a - i) (drop i a)) (take (length b - i) (drop i b))
+      → 8 ≤ length a → length a ≡ length b → words_alike a b i 8 ≡ r
+  last_alike e h l =
+      let i : ℕ = length a - 8 in
+      let m : length a - i ≡ 8 = omega arith in
+      let n : length b - i ≡ 8 = omega arith in
+      sym (rw (m, n) at e ∙ eight_alike i (omega arith) (omega arith))
 
   -- ---- the turns
 
-  -- how many turns there are at p before the last one
-  abbrev left : ℕ → ℕ
-  left p = (length a - 1 - p) / 8
-
-  -- the turns before p agreed, so that what is told from there on is told of all
-  pub record Told (p : ℕ) : Type 0 where
-    pub told : agreeing_from (left p) a b p ≡ agreeing a b
+  -- t turns of all before the last one agreed, so that what is told from there on is told of all
+  pub record Told (t : ℕ) : Type 0 where
+    pub told : agreeing_from ((length a - 1) / 8 - t) a b (8 * t) ≡ agreeing a b
 
   pub no_turn : length a < 8 → 0 ≡ agreeing a b
   unfolding agreeing
@@ -46,37 +57,34 @@ module _ (a b : List ℕ) where
   pub first_turn : 8 ≤ length a → Told 0
   unfolding agreeing
   first_turn h =
-      let all : left 0 ≡ (length a - 1) / 8 = omega arith in
-      record { told = rw (le-ltb (length a) 8 h, all) }
+      let all : (length a - 1) / 8 - 0 ≡ (length a - 1) / 8 = omega arith in
+      let first : 8 * 0 ≡ 0 = refl in
+      record { told = rw (le-ltb (length a) 8 h, all, first) }
 
   -- a turn before the last one, with its outcome
-  module _ {p : ℕ} (h : p < length a - 8) (e : Told p) where
-    one_left : left p ≡ suc (left (p + 8))
-    one_left = omega arith
-
-    turn : cond (words_alike a b p 8) (agreeing_from (left (p + 8)) a b (p + 8)) p ≡ agreeing a b
+  module _ {t : ℕ} (h : t < (length a - 1) / 8) (e : Told t) where
+    turn : cond (words_alike a b (8 * t) 8) (agreeing_from ((length a - 1) / 8 - (t + 1)) a b (8 * t + 8)) (8 * t) ≡ agreeing a b
     unfolding agreeing_from
-    turn = rw one_left at e.told
+    turn = let one_left : (length a - 1) / 8 - t ≡ suc ((length a - 1) / 8 - (t + 1)) = omega arith in rw one_left at e.told
 
-    pub stops : words_alike a b p 8 ≡ false → p ≡ agreeing a b
+    pub stops : words_alike a b (8 * t) 8 ≡ false → 8 * t ≡ agreeing a b
     stops d = rw d at turn
 
-    pub goes_on_lem : words_alike a b p 8 ≡ true → {m : ℕ} → m ≡ p + 8 → Told m
-    goes_on_lem d s = rw s (record { told = rw d at turn })
+    pub goes_on_lem : words_alike a b (8 * t) 8 ≡ true → Told (t + 1)
+    goes_on_lem d = let next : 8 * t + 8 ≡ 8 * (t + 1) = omega arith in record { told = rw next at (rw d at turn) }
 
   -- the last one
-  module _ {p : ℕ} (h : length a - 8 ≤ p) (e : Told p) where
-    none_left : left p ≡ 0
-    none_left = omega arith
-
-    last_turn : cond (words_alike a b (length a - 8) 8) (length a) p ≡ agreeing a b
+  module _ {t : ℕ} (h : t ≡ (length a - 1) / 8) (e : Told t) where
+    last_turn : cond (words_alike a b (length a - 8) 8) (length a) (8 * ((length a - 1) / 8)) ≡ agreeing a b
     unfolding agreeing_from
-    last_turn = rw none_left at e.told
+    last_turn =
+        let none_left : (length a - 1) / 8 - t ≡ 0 = omega arith in
+        rw (← h) (rw none_left at e.told)
 
     pub ends : words_alike a b (length a - 8) 8 ≡ true → length a ≡ agreeing a b
     ends d = rw d at last_turn
 
-    pub ends_before : words_alike a b (length a - 8) 8 ≡ false → p ≡ agreeing a b
+    pub ends_before : words_alike a b (length a - 8) 8 ≡ false → 8 * ((length a - 1) / 8) ≡ agreeing a b
     ends_before d = rw d at last_turn
 
   -- ---- the words that agree

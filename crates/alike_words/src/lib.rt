@@ -1,25 +1,21 @@
-// Words of two lists compared, eight a turn.
+// Words of two lists compared: all of them, and how many first ones agree.
 
 #![tactic(auto)]
 
-ghost use Rattle.std.specs.Prelude.{◌≡◌, ◌+◌, ◌≤◌, length};
-ghost use Rattle.alike_words.specs.EightAtOnce.{words_alike, agreeing};
+ghost use Rattle.std.specs.Prelude.{◌≡◌, length};
+ghost use Rattle.model.specs.Tests.{same};
+ghost use Rattle.alike_words.specs.EightAtOnce.{agreeing};
 
-// Whether the eight words from i on are alike: their differences are joined, and tested once.
-fn eight_alike(a: &[u64], b: &[u64], i: usize) -> bool
-    requires a_len { length a.now ≡ length b.now }
-    requires i_in_bounds { i + 8 ≤ length a.now }
-    ensures { result ≡ words_alike a.now b.now i 8 }
+// So many words are compared in a turn.
+const TURN: usize = 8;
+
+// Whether two lists of words are the same: what differs is joined without an early exit, and tested once.
+pub fn are_alike(a: &[u64], b: &[u64]) -> bool
+    requires { length a.now ≡ length b.now }
+    ensures { result ≡ same a.now b.now }
 {
-    let differences = (a[i] ^ b[i])
-        | (a[i + 1] ^ b[i + 1])
-        | (a[i + 2] ^ b[i + 2])
-        | (a[i + 3] ^ b[i + 3])
-        | (a[i + 4] ^ b[i + 4])
-        | (a[i + 5] ^ b[i + 5])
-        | (a[i + 6] ^ b[i + 6])
-        | (a[i + 7] ^ b[i + 7]);
-    differences == 0
+    let pairs = a.iter().zip(b);
+    pairs.fold(0, |all, (x, y)| all | (*x ^ *y)) == 0
 }
 
 // How many first words of two lists agree, told in turns of eight, the last one with the last eight words: all, or those before the first turn that
@@ -29,16 +25,20 @@ pub fn agreeing(a: &[u64], b: &[u64]) -> usize
     ensures { result ≡ agreeing a.now b.now }
 {
     let n = a.len();
-    if n < 8 {
+    if n < TURN {
         return 0;
     }
-    let last = n - 8;
-    let mut p = 0;
-    while p < last {
-        if !eight_alike(a, b, p) {
-            return p;
+    let turns = (n - 1) / TURN;
+    for t in 0..turns {
+        let i = TURN * t;
+        if !are_alike(&a[i..i + TURN], &b[i..i + TURN]) {
+            return i;
         }
-        p += 8;
     }
-    if eight_alike(a, b, last) { n } else { p }
+    let last = n - TURN;
+    if are_alike(&a[last..], &b[last..]) {
+        n
+    } else {
+        TURN * turns
+    }
 }

@@ -3,7 +3,6 @@ ghost use Rattle.std.specs.Prelude.{◌≡◌};
 ghost use Rattle.word_outputs.specs.TraceOutputs.{trace_answer, boxes_after, box_count_after};
 
 use histories::trace::MOST_HOSTS;
-use stable_entries::copy::copy;
 
 // Copies the boxes of a seat's trace to an output, nearest first: 0 and their count, or the rejection and nothing written.
 #[unsafe(no_mangle)]
@@ -32,7 +31,7 @@ pub extern "C" fn penkwadar_trace(
     }
     let hosts = trace.hosts;
     let end = boxes as usize;
-    copy(out, &hosts[0..end]);
+    out[..end].copy_from_slice(&hosts[..end]);
     count[0] = boxes;
     0
 }

@@ -4,13 +4,13 @@ use Prim.Native.Nat.{ℕ, zero, suc, ◌+◌, ◌*◌, ◌/◌, ◌^◌, ◌<◌
 use native.Mathlib.Nat.{not-suc-le-zero}
 use native.Mathlib.Omega.{arith}
 use mathlib.Core.Path.{◌≡◌, refl, sym, ap, ◌∙◌}
-use mathlib.Core.Bool.{Bool, true, false, not, ◌||◌, true≢false}
+use mathlib.Core.Bool.{Bool, true, false, not, ◌||◌, or-false, or_assoc, true≢false}
 use mathlib.Core.List.{List, [], ◌∷◌}
 use lib.ListN.{length, get_or}
 use lib.Pow.{shr-shr}
 use lib.Dec.{eqb}
 use borrow.Author.Tests.{eqb-true, eqb-false}
-use Rattle.std.specs.List.{list_any}
+use Rattle.std.specs.List.{fold, list_any}
 use Rattle.model.specs.Tests.{contains}
 use Rattle.model.specs.Entries.{is_issue, is_issue_for, issue_shard, issue_index, names}
 use Rattle.model.specs.Install.{none_before}
@@ -53,16 +53,28 @@ module _ (e x : ℕ) (is : is_issue e ≡ true) where
 
 -- ---- a list
 
-pub contained : (e : ℕ) (l : List ℕ) → list_any (λ x. eqb x e) l ≡ contains e l
+contained : (e : ℕ) (l : List ℕ) → list_any (λ x. eqb x e) l ≡ contains e l
 unfolding contains
 contained e [] = refl
 contained e (x ∷ l) = ap (λ (b : Bool). eqb x e || b) (contained e l)
 
 -- from bit 20 on, an issue for the same shard and index
-pub alike_issued : (e : ℕ) (l : List ℕ) → is_issue e ≡ true → list_any (λ x. eqb (x / 2 ^ 20) (e / 2 ^ 20)) l ≡ issued_in (issue_shard e) (issue_index e) l
+alike_issued : (e : ℕ) (l : List ℕ) → is_issue e ≡ true → list_any (λ x. eqb (x / 2 ^ 20) (e / 2 ^ 20)) l ≡ issued_in (issue_shard e) (issue_index e) l
 unfolding issued_in
 alike_issued e [] is = refl
 alike_issued e (x ∷ l) is = rw (name_tells e x is, alike_issued e l is)
+
+-- tests joined by `|` in a fold
+any_joined : (f : ℕ → Bool) (b : Bool) (l : List ℕ) → fold (λ found x. found || f x) b l ≡ (b || list_any f l)
+any_joined f b [] = sym (or-false b)
+any_joined f b (x ∷ l) = any_joined f (b || f x) l ∙ or_assoc b (f x) (list_any f l)
+
+pub entry_joined : (e : ℕ) (l : List ℕ) → fold (λ found x. found || eqb x e) false l ≡ contains e l
+entry_joined e l = any_joined (λ x. eqb x e) false l ∙ contained e l
+
+pub issue_joined : (e : ℕ) (l : List ℕ) → is_issue e ≡ true
+    → fold (λ found x. found || eqb (x / 2 ^ 20) (e / 2 ^ 20)) false l ≡ issued_in (issue_shard e) (issue_index e) l
+issue_joined e l is = any_joined (λ x. eqb (x / 2 ^ 20) (e / 2 ^ 20)) false l ∙ alike_issued e l is
 
 -- no issue for a shard and an index is in a list: there is none at any of its places
 pub issued_nowhere : (z i : ℕ) (l : List ℕ) → issued_in z i l ≡ false → (q : ℕ) → q < length l → names z i (get_or l q 0) ≡ false

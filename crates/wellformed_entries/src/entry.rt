@@ -47,9 +47,17 @@ pub fn is_entry(shards: usize, e: u64) -> bool
     is_take(e) || is_proper_issue(shards, e)
 }
 
-// Whether all words are proper entries.
-pub fn each_entry(words: &[u64], shards: usize) -> bool
+// Whether all words are proper entries, tested one by one.
+fn are_entries(words: &[u64], shards: usize) -> bool
     ensures { result ≡ all_of (is_entry shards) words.now }
 {
     words.iter().all(|e| is_entry(shards, *e))
+}
+
+// Whether all words are proper entries: four a turn, each with its own jump on takes, which is foretold better, and then the rest.
+pub fn each_entry(words: &[u64], shards: usize) -> bool
+    ensures { result ≡ all_of (is_entry shards) words.now }
+{
+    let (fours, rest) = words.as_chunks::<4>();
+    fours.iter().all(|four| are_entries(four, shards)) && are_entries(rest, shards)
 }

@@ -1,21 +1,13 @@
 // The 64 words of a replica.
 ghost use Rattle.std.specs.Prelude.{◌≡◌, ◌+◌, ◌≤◌, not, ◌&&◌, ◌||◌, eqb, leb, length, take, drop};
-ghost use Rattle.std.specs.List.{list_all, zip};
 ghost use Rattle.types.specs.ReplicaPlace.{part_words};
 ghost use Rattle.wellformed_entries.specs.Zeros.{zeros};
 ghost use Rattle.wellformed_replicas.specs.Shapes.{are_first_of, is_known, is_shape};
 
+use alike_words::are_alike;
 use types::layout::{ENTRIES, IMMUTABLE, LENGTH, MOST_ENTRIES, PENDING, RESERVED, STABLE};
 use wellformed_entries::entry::all_takes;
 use wellformed_entries::zero::all_zero;
-
-// Whether words are the same as others, as far as both go: what differs is joined without an early exit, and tested once.
-fn is_same(words: &[u64], others: &[u64]) -> bool
-    ensures { result ≡ list_all (λ p. eqb p.0 p.1) (zip words.now others.now) }
-{
-    let pairs = words.iter().zip(others);
-    pairs.fold(0, |all, (word, other)| all | (*word ^ *other)) == 0
-}
 
 // Whether words are the first of others. Histories that differ mostly differ in the last place of the shorter one, which is looked at first.
 pub fn begins(words: &[u64], others: &[u64]) -> bool
@@ -24,7 +16,7 @@ pub fn begins(words: &[u64], others: &[u64]) -> bool
     let Some(others) = others.get(..words.len()) else {
         return false;
     };
-    words.last() == others.last() && is_same(words, others)
+    words.last() == others.last() && are_alike(words, others)
 }
 
 // Whether a history need not be tested entry by entry: it is the first entries of one that was. Before one was, it has to have takes alone.

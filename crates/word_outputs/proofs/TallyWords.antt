@@ -23,16 +23,13 @@ module _ (out : List ℕ) (room : 17 ≤ length out) where
     unfolding tally_words
     words_long = length-append t.hosts (t.none ∷ []) ∙ rw long
 
-    pub stored : {l : List ℕ} → l ≡ take 16 t.hosts ++ drop (length (take 16 t.hosts)) out
-        → set l 16 t.none ≡ sets out 0 (tally_words t)
+    pub stored : {l : List ℕ} → l ≡ t.hosts → set (l ++ drop 16 out) 16 t.none ≡ sets out 0 (tally_words t)
     unfolding tally_words
     stored {l} e =
         let h : List ℕ = t.hosts in
-        let same : take 16 h ≡ h = take_all 16 h (omega (arith, long)) in
         let fits : 16 < length out = omega (arith, room) in
-        let is : l ≡ h ++ (get_or out 16 0 ∷ drop 17 out) =
-        e ∙ ap (λ (x : List ℕ). x ++ drop (length x) out) same ∙ ap (λ (n : ℕ). h ++ drop n out) long
-        ∙ ap (λ (x : List ℕ). h ++ x) (drop-cons out 16 0 fits) in
+        let is : l ++ drop 16 out ≡ h ++ (get_or out 16 0 ∷ drop 17 out) =
+        ap (λ (x : List ℕ). x ++ drop 16 out) e ∙ ap (λ (x : List ℕ). h ++ x) (drop-cons out 16 0 fits) in
         let fit : length (h ++ t.none ∷ []) ≤ length out = omega (arith, words_long, room) in
         ap (λ (x : List ℕ). set x 16 t.none) is
         ∙ ap (λ (n : ℕ). set (h ++ (get_or out 16 0 ∷ drop 17 out)) n t.none) (sym long)
@@ -45,11 +42,6 @@ module _ (out : List ℕ) (room : 17 ≤ length out) where
   pub in_long : length (tally_in out).hosts ≡ 16
   unfolding tally_in
   in_long = length-take-le 16 out (omega (arith, room))
-
-  -- .. and copied to sixteen words of its own
-  pub copied : {l : List ℕ} → l ≡ take 16 out ++ drop (length (take 16 out)) (replicate 16 0) → l ≡ take 16 out
-  copied e =
-      e ∙ ap (λ (n : ℕ). take 16 out ++ drop n (replicate 16 0)) (length-take-le 16 out (omega (arith, room))) ∙ append-nil (take 16 out)
 
   pub own_words : sets out 0 (tally_words (tally_in out)) ≡ out
   unfolding tally_words tally_in

@@ -3,7 +3,6 @@ ghost use Rattle.std.specs.Prelude.{◌≡◌, ◌≤◌, length};
 ghost use Rattle.std.proofs.lemmas.List.Edits.{sets};
 ghost use Rattle.word_outputs.specs.TallyWords.{tally_words, tally_in};
 
-use stable_entries::copy::copy;
 use tallies::tally::{HOSTS, Tally};
 
 // The tally that an output holds.
@@ -12,7 +11,7 @@ pub fn tally_in(out: &[u64]) -> Tally
     ensures { result ≡ tally_in out.now }
 {
     let mut hosts = [0u64; HOSTS];
-    copy(&mut hosts, &out[0..HOSTS]);
+    hosts.copy_from_slice(&out[..HOSTS]);
     Tally {
         hosts,
         none: out[HOSTS],
@@ -24,7 +23,6 @@ pub fn put_tally(out: &mut [u64], tally: Tally)
     requires { (17 ≤ length out.old) × (length tally.hosts ≡ 16) }
     ensures { out.new ≡ sets out.old 0 (tally_words tally) }
 {
-    let hosts = tally.hosts;
-    copy(out, &hosts[0..HOSTS]);
+    out[..HOSTS].copy_from_slice(&tally.hosts);
     out[HOSTS] = tally.none;
 }

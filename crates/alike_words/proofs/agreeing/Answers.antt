@@ -1,23 +1,30 @@
 -- Answers of `agreeing`.
-use native.Mathlib.Omega.{arith}
-use mathlib.Core.Path.{sym, ◌∙◌}
-use Rattle.alike_words.proofs.EightAtOnce.{no_turn, first_turn, stops, goes_on_lem, ends, ends_before}
+use Rattle.std.proofs.Common.{◌∙◌, arith}
+use Rattle.alike_words.proofs.EightAtOnce.{turn_alike, last_alike, no_turn, first_turn, stops, goes_on_lem, ends, ends_before}
 use Rattle.alike_words.proofs.agreeing.Goals as goal
 
-pub returns-then-n-lt8 : goal.returns-then-n-lt8
-returns-then-n-lt8 c = no_turn _ _ c.if-n-lt8.true
+pub returns-then-n-lt-TURN : goal.returns-then-n-lt-TURN
+returns-then-n-lt-TURN c = no_turn _ _ c.if-n-lt-TURN.true
 
-pub loop-p-init : goal.loop-p-init
-loop-p-init c = first_turn _ _ c.if-n-lt8.false
+pub loop-t-init : goal.loop-t-init
+loop-t-init c = first_turn _ _ c.if-n-lt-TURN.false
 
-pub returns-then-not-eight_alike : goal.returns-then-not-eight_alike
-returns-then-not-eight_alike c = stops _ _ c.loop-p-test.true c.loop-p.invariant (sym c.eight_alike.ensures ∙ c.if-not-eight_alike.true)
+pub returns-then-not-are_alike : goal.returns-then-not-are_alike
+returns-then-not-are_alike c =
+    let alike = turn_alike _ _ _ c.are_alike.ensures (omega arith) c.requires in
+    stops _ _ c.loop-t-test.true c.loop-t.invariant (alike ∙ c.if-not-are_alike.true)
 
-pub loop-p-preserved : goal.loop-p-preserved
-loop-p-preserved c = goes_on_lem _ _ c.loop-p-test.true c.loop-p.invariant (sym c.eight_alike.ensures ∙ c.if-not-eight_alike.false) (omega arith)
+pub loop-t-preserved : goal.loop-t-preserved
+loop-t-preserved c =
+    let alike = turn_alike _ _ _ c.are_alike.ensures (omega arith) c.requires in
+    goes_on_lem _ _ c.loop-t-test.true c.loop-t.invariant (alike ∙ c.if-not-are_alike.false)
 
-pub returns-then-eight_alike : goal.returns-then-eight_alike
-returns-then-eight_alike c = ends _ _ c.loop-p-test.false c.loop-p.invariant (sym c.eight_alike-2.ensures ∙ c.if-eight_alike.true)
+pub returns-then-are_alike : goal.returns-then-are_alike
+returns-then-are_alike c =
+    let alike = last_alike _ _ c.are_alike-2.ensures c.if-n-lt-TURN.false c.requires in
+    ends _ _ (omega arith) c.loop-t.invariant (alike ∙ c.if-are_alike.true)
 
-pub returns-else-eight_alike : goal.returns-else-eight_alike
-returns-else-eight_alike c = ends_before _ _ c.loop-p-test.false c.loop-p.invariant (sym c.eight_alike-2.ensures ∙ c.if-eight_alike.false)
+pub returns-else-are_alike : goal.returns-else-are_alike
+returns-else-are_alike c =
+    let alike = last_alike _ _ c.are_alike-2.ensures c.if-n-lt-TURN.false c.requires in
+    ends_before _ _ (omega arith) c.loop-t.invariant (alike ∙ c.if-are_alike.false)

@@ -1,7 +1,15 @@
 -- Answers of `has_entry`.
-use mathlib.Core.Path.{◌∙◌}
-use Rattle.entry_search.proofs.Searches.{contained}
+use Rattle.std.proofs.Common.{◌∙◌, ◌||◌, eqb, rules}
+use Rattle.std.proofs.lemmas.Iterator.{YieldsList-from_slice}
+use Rattle.std.proofs.lemmas.Iterator.Consumers.{fold_from_yields_List}
+use borrow.Author.Tests.{tests}
+use Rattle.entry_search.proofs.Searches.{entry_joined}
 use Rattle.entry_search.proofs.has_entry.Goals as goal
 
 pub returns : goal.returns
-returns c = c.contains.ensures.value ∙ contained _ _
+returns c =
+    let e = c.args.e in
+    let history = c.args.history.now in
+    fold_from_yields_List _ (λ found x. found || eqb x e) _ _ c.fold.ensures.ran
+    (YieldsList-from_slice history cc) (λ a x b q k. search (rules, tests))
+    ∙ entry_joined e history

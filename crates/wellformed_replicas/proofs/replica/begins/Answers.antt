@@ -19,7 +19,7 @@ returns-then-eq c =
     let others = c.args.others.now in
     let found = c.in-Some.ensures.lookup.0 in
     let part : c.in-Some.others.now ≡ take (length words) others = grind (arith, found.2) in
-    c.is_same.ensures ∙ rw part (first_same words others found.1)
+    c.are_alike.ensures ∙ rw part (first_same words others found.1)
 
 pub returns-else-eq : goal.returns-else-eq
 returns-else-eq c =
