@@ -2,5 +2,4 @@
 pub mod TallyCounts
 pub mod Tallying
 pub mod TallyLaws
-pub mod TurnExits
 pub mod Turning

@@ -1,189 +1,119 @@
 -- The turns of a replay that keeps a tally: it begins, a step is accepted or rejected, and it is over.
 -- Assumes nothing.
-use Rattle.model.specs.Log.{one_step}
 use Prim.Native.Nat.{ℕ, ◌+◌, ◌-◌, ◌≤◌, ◌<◌, ◌^◌}
 use native.Mathlib.Nat.{sub-zero}
 use native.Mathlib.Omega.{arith}
 use mathlib.Core.Path.{◌≡◌, refl, sym, ap, ◌∙◌}
-use mathlib.Core.Bool.{Bool, true, false, cond, true≢false}
+use mathlib.Core.Bool.{Bool, true, false, cond}
 use mathlib.Core.List.{List}
 use lib.Dec.{eqb}
 use lib.ListN.{length, drop}
-use borrow.Author.Tests.{eq-eqb, ne_eqb, eqb-true}
+use borrow.Author.Tests.{eq-eqb, ne_eqb}
+use Rattle.std.specs.Prelude.{Result, Ok, Err}
+use Rattle.types.specs.declared.rejection.Rejection.{Rejection}
 use Rattle.types.specs.declared.step.Step.{Step}
 use Rattle.types.specs.declared.Stop.{Stop}
-use Rattle.types.specs.declared.Stop.TheVariants.{Spent, Rejected as NotTried}
 use Rattle.types.specs.declared.Report.{Report}
+use Rattle.types.specs.Kinds.{kind_of}
+use Rattle.types.specs.Rejections.{rejection_number, answer_number}
+use Rattle.types.specs.Rules.{Known}
+use Rattle.types.proofs.Rejections.{number_positive}
 use Rattle.model.specs.Steps.{rejection, after}
-use Rattle.model.specs.Log.{read_at, read_log, stopped}
-use Rattle.model.specs.Replay.{after_all, replay_rejection, replayed, report, after_replay}
+use Rattle.model.specs.Log.{one_step, read_at, read_log, stopped}
+use Rattle.model.specs.Replay.{replay_rejection, replayed, report, after_replay}
 use Rattle.model.proofs.Results.{replays}
-use Rattle.model.proofs.WellFormedSteps.{step_length, after_rejected}
-use Rattle.replay.specs.Run.{report_of, run_report, after_run}
-use Rattle.replay.proofs.Rest.{reads_step, stops}
+use Rattle.model.proofs.RoundTrip.{step_given}
+use Rattle.model.proofs.WellFormedSteps.{after_rejected}
+use Rattle.lookup.specs.Ready.{Formed}
+use Rattle.replay.proofs.Rest.{read_step_lem, reads_step}
 use Rattle.replay.proofs.Running.{start, turn_rejected, turn_accepted}
-use Rattle.replay.proofs.Whole.{formed}
 use Rattle.tallies.specs.declared.tally.Tally.{Tally}
-use Rattle.tallies.specs.declared.turns.Progress.{Progress}
-use Rattle.tallies.specs.Tally.{tally_after}
-use Rattle.rejection_hosts.specs.RejectionHosts.{no_host, count_of}
 use Rattle.tallies.specs.Returns.{Returns}
-use Rattle.tallies.specs.TallyCounts.{nothing_counted, counted_in}
-use Rattle.tallies.specs.TallyTurns.{begun, ended, goes_on}
+use Rattle.tallies.specs.Tally.{tally_of, tally_after}
+use Rattle.rejection_hosts.specs.RejectionHosts.{no_host, count_of, RejectedStep}
+use Rattle.tallies.specs.TallyCounts.{nothing_counted, counted_in, CountRoom}
 use Rattle.tallies.proofs.TallyCounts.{tally_from, counted_at, counted_long, count_most, nothing_at, nothing_long, tally_from_nothing}
-use Rattle.tallies.proofs.Tallying.{Underway, Tallying, Turned}
+use Rattle.tallies.proofs.Tallying.{Underway}
 
 one_at_most : (b : Bool) → cond b 1 0 ≤ 1
 one_at_most true = omega arith
 one_at_most false = omega arith
 
 -- ---- the whole replay
-returned : (w log : List ℕ) (budget : ℕ) {x : Report} → x ≡ report w log budget → Returns w log budget x
+pub returned : (w log : List ℕ) (budget : ℕ) {x : Result Report Rejection} → x ≡ report w log budget → Returns w log budget x
 returned w log budget p =
     let t = replays w log budget p in
     record { number = t.number; code = t.code; tried = t.tried; rejected = t.rejected; bytes = t.bytes; value = p }
 
--- .. where its state is accepted
-module _ (w log : List ℕ) (budget : ℕ) (z : replay_rejection w ≡ 0) where
-  run_reported : run_report w log budget ≡ report w log budget
-  unfolding report run_report
-  run_reported = rw z
-
-  run_left : after_run w log budget ≡ after_replay w log budget
-  unfolding after_replay after_run replayed
-  run_left = rw z
-
-  run_tallied : (t₀ : Tally) → tally_from nothing_counted w (read_log budget log).steps ≡ tally_after t₀ w log budget
-  unfolding tally_after replayed
-  run_tallied t₀ = tally_from_nothing w (read_log budget log).steps ∙ rw z
-
--- ---- the beginning; e is what the test of the state answered
-module _ (w : List ℕ) {e : ℕ} (q : e ≡ replay_rejection w) where
-  pub begun_over : (e ≡ 0 → ⊥) → ended (report_of (NotTried e) 0 0 0) ≡ begun w
-  unfolding begun
-  begun_over n = rw (sym q, ne_eqb e 0 n)
-
-  pub begun_on : e ≡ 0 → goes_on (report_of Spent 0 0 0) 17 ≡ begun w
-  unfolding begun
-  begun_on z = rw (sym q, eq-eqb e 0 z)
-
-module _ (w : List ℕ) {p : Progress} (e : p ≡ begun w) (t₀ : Tally) (log : List ℕ) (budget : ℕ) where
-  -- over at once: the tally is left
-  pub begins_over : p.going ≡ false → Tallying t₀ w log budget w p t₀
-  unfolding begun report after_replay replayed after_all tally_after
-  begins_over g = rw e (go (eqb (replay_rejection w) 0) refl (rw e at g))
-    where
-      go : (b : Bool) → eqb (replay_rejection w) 0 ≡ b
-          → (cond b (goes_on (report_of Spent 0 0 0) 17) (ended (report_of (NotTried (replay_rejection w)) 0 0 0))).going ≡ false
-          → Tallying t₀ w log budget w (cond b (goes_on (report_of Spent 0 0 0) 17) (ended (report_of (NotTried (replay_rejection w)) 0 0 0))) t₀
-      go true q h = absurd (true≢false h)
-      go false q h =
-          record {
-            long = refl;
-            on = λ k. absurd (true≢false (sym k));
-            over = λ k. (returned w log budget (rw q), (rw q, rw q));
-          }
-
-  -- it goes on, with nothing counted
-  pub begins_on : p.going ≡ true → Tallying t₀ w log budget w p nothing_counted
-  unfolding begun
-  begins_on g = rw e (go (eqb (replay_rejection w) 0) refl (rw e at g))
-    where
-      go : (b : Bool) → eqb (replay_rejection w) 0 ≡ b
-          → (cond b (goes_on (report_of Spent 0 0 0) 17) (ended (report_of (NotTried (replay_rejection w)) 0 0 0))).going ≡ true
-          → Tallying t₀ w log budget w (cond b (goes_on (report_of Spent 0 0 0) 17) (ended (report_of (NotTried (replay_rejection w)) 0 0 0))) nothing_counted
-      go true q h =
-          let z : replay_rejection w ≡ 0 = eqb-true (replay_rejection w) 0 q in
-          record {
-            long = refl;
-            on = λ k.
-                record {
-                  accepted = z;
-                  running = start w log budget (formed w log budget refl z);
-                  tally_is = simp sub-zero;
-                  few = λ j b. rw (nothing_at j b) (omega arith);
-                  sixteen = nothing_long;
-                };
-            over = λ k. absurd (true≢false k);
-          }
-      go false q h = absurd (true≢false (sym h))
+-- ---- the beginning
+pub begins : (w log : List ℕ) (budget : ℕ) → Formed w → Underway w log budget w 0 0 0 nothing_counted
+begins w log budget f =
+    record {
+      running = start w log budget f;
+      tally_is = simp sub-zero;
+      few = λ j b. rw (nothing_at j b) (omega arith);
+      sixteen = nothing_long;
+    }
 
 -- ---- a turn
-module _ {w₀ log : List ℕ} {budget : ℕ} {w : List ℕ} {r : Report} {t : Tally} (t₀ : Tally) (u : Underway w₀ log budget w r t) where
-  -- nothing more is read
-  pub stops_here : {x : Stop} → read_log (budget - r.tried) (drop r.bytes log) ≡ stopped x
-      → Turned t₀ w₀ log budget r w (ended (report_of x r.tried r.rejected r.bytes)) t
+-- a step that was read has a kind that is known
+known_step : (log : List ℕ) (at : ℕ) (s : Step) (next : ℕ) → read_at log at ≡ one_step s next → Known (kind_of s.kind)
+known_step log at s next e =
+    let d = read_step_lem log at s next e in
+    let g = (step_given (drop at log) d.1).writable in
+    record { not_kept = g.not_kept; known = g.known }
+
+module _ {w₀ log : List ℕ} {budget : ℕ} {w : List ℕ} {at tried rejected : ℕ} {t : Tally} (u : Underway w₀ log budget w at tried rejected t) where
+  -- nothing more is read: the tally is that of all steps
+  pub tally_told : {x : Stop} → read_log (budget - tried) (drop at log) ≡ stopped x → t ≡ tally_of w₀ (read_log budget log).steps
   unfolding stopped tally_from
-  stops_here {x} e =
-      record {
-        counts = λ l. absurd (omega (arith, l));
-        skips = λ l.
-            record {
-              long = u.running.long;
-              on = λ g. absurd (true≢false (sym g));
-              over = λ g.
-                  let d = stops u.running.rest e in (
-                    returned w₀ log budget (d.0 ∙ run_reported w₀ log budget u.accepted),
-                    (d.1 ∙ run_left w₀ log budget u.accepted, sym (rw e at u.tally_is) ∙ run_tallied w₀ log budget u.accepted t₀),
-                  );
-            };
-        less = λ g. absurd (true≢false (sym g));
-      }
+  tally_told e = sym (rw e at u.tally_is) ∙ tally_from_nothing w₀ (read_log budget log).steps
 
-  -- a step is read and tried: a is its answer, and v the state that it leaves
-  module _ (s : Step) (next : ℕ) (h : r.tried < budget) (e : read_at log r.bytes ≡ one_step s next)
-      {a : ℕ} (p : a ≡ rejection w s) {v : List ℕ} (q : v ≡ after w s) where
+  -- a step is read and tried: r is its answer, and v the state that it leaves
+  module _ (s : Step) (next : ℕ) (h : tried < budget) (e : read_at log at ≡ one_step s next)
+      {v : List ℕ} (q : v ≡ after w s) where
     tally_goes : tally_from nothing_counted w₀ (read_log budget log).steps
-        ≡ tally_from (cond (eqb (rejection w s) 0) t (counted_in t (count_of w s))) v (read_log (budget - (r.tried + 1)) (drop next log)).steps
+        ≡ tally_from (cond (eqb (rejection w s) 0) t (counted_in t (count_of w s))) v (read_log (budget - (tried + 1)) (drop next log)).steps
     unfolding tally_from
-    tally_goes = u.tally_is ∙ rw (reads_step log budget r.bytes r.tried s next h e, q)
+    tally_goes = u.tally_is ∙ rw (reads_step log budget at tried s next h e, q)
 
-    long_left : length v ≡ length w₀
-    long_left = rw q (step_length w s) ∙ u.running.long
-
-    pub accepts_one : a ≡ 0 → Turned t₀ w₀ log budget r v (goes_on (report_of Spent (r.tried + 1) r.rejected next) 17) t
-    accepts_one z =
+    pub accepts_one : 0 ≡ rejection w s → Underway w₀ log budget v next (tried + 1) rejected t
+    accepts_one p =
         record {
-          counts = λ l. absurd (omega (arith, l));
-          skips = λ l.
-              record {
-                long = long_left;
-                on = λ g.
-                    record {
-                      accepted = u.accepted;
-                      running = turn_accepted u.running s next h e a p q z refl;
-                      tally_is = rw (eq-eqb (rejection w s) 0 (sym p ∙ z)) at tally_goes;
-                      few = u.few;
-                      sixteen = u.sixteen;
-                    };
-                over = λ g. absurd (true≢false g);
-              };
-          less = λ g. omega (arith, h);
+          running = turn_accepted u.running s next h e 0 p q refl refl;
+          tally_is = rw (eq-eqb (rejection w s) 0 (sym p)) at tally_goes;
+          few = u.few;
+          sixteen = u.sixteen;
         }
 
-    -- .. is counted
-    pub rejects_one : (a ≡ 0 → ⊥) → r.rejected + 1 < 2 ^ 64 → {k : ℕ} → k ≡ count_of v s
-        → Turned t₀ w₀ log budget r v (goes_on (report_of Spent (r.tried + 1) (r.rejected + 1) next) k) t
-    rejects_one n small {k} c =
-        let no : rejection w s ≡ 0 → ⊥ = λ z. n (p ∙ z) in
-        let here : k ≡ count_of w s = c ∙ ap (λ (x : List ℕ). count_of x s) (q ∙ after_rejected w s no) in
-        let most : k ≤ no_host = rw here (count_most w s) in
-        record {
-          counts = λ l. (
-            record { fits = omega (arith, small, u.few k most) },
+    -- .. is rejected
+    module _ (x : Rejection) (p : rejection_number x ≡ rejection w s) where
+      no : rejection w s ≡ 0 → ⊥
+      no z = number_positive x (p ∙ z)
+
+      left : v ≡ w
+      left = q ∙ after_rejected w s no
+
+      -- it has a host to be looked for
+      pub has_host : RejectedStep v s x
+      has_host = record { formed = rw left u.running.formed; known = known_step log at s next e; is = p ∙ rw left }
+
+      module _ {k : ℕ} (c : k ≡ count_of v s) where
+        here : k ≡ count_of w s
+        here = c ∙ ap (λ (l : List ℕ). count_of l s) left
+
+        most : k ≤ no_host
+        most = rw here (count_most w s)
+
+        pub has_room : budget < 2 ^ 64 → CountRoom t k
+        has_room small = record { fits = omega (arith, small, h, u.running.rest.fewer, u.few k most) }
+
+        -- .. and is counted
+        pub rejects_one : Underway w₀ log budget v next (tried + 1) (rejected + 1) (counted_in t k)
+        rejects_one =
             record {
-              long = long_left;
-              on = λ g.
-                  record {
-                    accepted = u.accepted;
-                    running = turn_rejected u.running s next h e a p q n refl;
-                    tally_is = rw (ne_eqb (rejection w s) 0 no, sym here) at tally_goes;
-                    few = λ j b. let is = counted_at t u.sixteen k j most b in omega (arith, is, u.few j b, one_at_most (eqb k j));
-                    sixteen = counted_long t u.sixteen k;
-                  };
-              over = λ g. absurd (true≢false g);
-            },
-          );
-          skips = λ l. absurd (omega (arith, l, most));
-          less = λ g. omega (arith, h);
-        }
+              running = turn_rejected u.running s next h e (rejection_number x) p q (number_positive x) refl;
+              tally_is = rw (ne_eqb (rejection w s) 0 no, sym here) at tally_goes;
+              few = λ j b. let is = counted_at t u.sixteen k j most b in omega (arith, is, u.few j b, one_at_most (eqb k j));
+              sixteen = counted_long t u.sixteen k;
+            }

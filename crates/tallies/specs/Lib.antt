@@ -3,4 +3,3 @@ pub mod Returns
 pub mod Tally
 pub mod TallyCounts
 pub mod TallyLaws
-pub mod TallyTurns

@@ -3,6 +3,7 @@ use Rattle.std.specs.Prelude.{ℕ, ◌+◌, ◌<◌, ◌≡◌, Bool, false, ◌
 use Rattle.types.specs.declared.step.Step.{Step}
 use Rattle.model.specs.Steps.{after}
 use Rattle.model.specs.Replay.{replay_rejection, replayed, report}
+use Rattle.model.specs.Results.{report_rejected}
 use Rattle.tallies.specs.declared.tally.Tally.{Tally}
 use Rattle.tallies.specs.Tally.{tally_after}
 use Rattle.rejection_hosts.specs.RejectionHosts.{no_host, named_host}
@@ -22,7 +23,7 @@ is_named_in h w (s ∷ ss) = eqb (named_host w s) h || is_named_in h (after w s)
 
 pub record TallyLaws : Type 0 where
   -- "the seventeen sum to the refused total that the run still returns"
-  pub sums : (t : Tally) (w log : List ℕ) (budget : ℕ) → replay_rejection w ≡ 0 → total (tally_after t w log budget) ≡ (report w log budget).rejected
+  pub sums : (t : Tally) (w log : List ℕ) (budget : ℕ) → replay_rejection w ≡ 0 → total (tally_after t w log budget) ≡ report_rejected (report w log budget)
   -- a host that no step names has 0
   pub unnamed : (t : Tally) (w log : List ℕ) (budget : ℕ) → replay_rejection w ≡ 0 → (h : ℕ) → h < no_host
       → is_named_in h w (replayed w log budget) ≡ false → get_or (tally_after t w log budget).hosts h 0 ≡ 0

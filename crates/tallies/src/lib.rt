@@ -4,4 +4,3 @@
 
 pub mod tallied;
 pub mod tally;
-mod turns;

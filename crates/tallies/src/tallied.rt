@@ -1,38 +1,71 @@
 // The replay that keeps a tally of its rejections, in place.
-ghost use Rattle.std.specs.Prelude.{◌≡◌};
+ghost use Rattle.std.specs.Prelude.{◌≡◌, length};
+ghost use Rattle.model.specs.Layout.{shards_of};
+ghost use Rattle.model.specs.Log.{read_log};
 ghost use Rattle.model.specs.Replay.{after_replay};
+ghost use Rattle.lookup.specs.Ready.{Formed};
+ghost use Rattle.replay.specs.Run.{run_report, after_run};
 ghost use Rattle.tallies.specs.Returns.{Returns};
-ghost use Rattle.tallies.specs.Tally.{tally_after};
+ghost use Rattle.tallies.specs.Tally.{tally_of, tally_after};
+ghost use Rattle.tallies.specs.TallyCounts.{nothing_counted};
 
 use crate::tally::{Tally, count, zero};
-use crate::turns::{begin, turn};
-use rejection_hosts::NO_HOST;
-use types::Report;
+use machine::step_inside;
+use quick_reader::read_step;
+use rejection_hosts::count_of;
+use replay::stopped;
+use types::rejection::Rejection;
+use types::{Report, Stop};
 
 // What a replay on a tally by value returns.
 #[derive(Drop)]
 pub struct Tallied {
-    pub report: Report,
+    pub report: Result<Report, Rejection>,
     pub tally: Tally,
 }
 
 // Replays a log with a budget of steps, as `replay` does. The tally is started from zero and counts the rejections; a replay that is rejected leaves it.
-pub fn replay_tally(state: &mut [u64], log: &[u8], budget: u64, tally: &mut Tally) -> Report
+pub fn replay_tally(
+    state: &mut [u64],
+    log: &[u8],
+    budget: u64,
+    tally: &mut Tally,
+) -> Result<Report, Rejection>
     ensures returns { Returns state.old log.now budget result }
     ensures state_after { state.new ≡ after_replay state.old log.now budget }
     ensures tally_after { tally.new ≡ tally_after tally.old state.old log.now budget }
 {
-    let mut p = begin(state);
-    if p.going {
-        *tally = zero();
-    }
-    while p.going {
-        p = turn(state, log, budget, p.report);
-        if p.count <= NO_HOST {
-            count(tally, p.count);
+    let shards = wellformed::check(state)?;
+    *tally = zero();
+    Ok(run(state, shards, log, budget, tally))
+}
+
+// The same on a state that is known to be well-formed, of so many shards, with nothing counted yet.
+fn run(state: &mut [u64], shards: usize, log: &[u8], budget: u64, tally: &mut Tally) -> Report
+    requires formed { Formed state.old }
+    requires count { shards ≡ shards_of (length state.old) }
+    requires zero { tally.old ≡ nothing_counted }
+    ensures value { result ≡ run_report state.old log.now budget }
+    ensures state_after { state.new ≡ after_run state.old log.now budget }
+    ensures tally_after { tally.new ≡ tally_of state.old (read_log budget log.now).steps }
+{
+    let mut at = 0;
+    let mut rejected = 0;
+    for tried in 0..budget {
+        match read_step(log, at) {
+            Ok(Some(reading)) => {
+                if let Err(rejection) = step_inside(state, shards, reading.step) {
+                    count(tally, count_of(state, reading.step, rejection));
+                    rejected += 1;
+                }
+                at = reading.next;
+            }
+            Ok(None) => return stopped(Stop::Ended, tried, rejected, at),
+            Err(rejection) => return stopped(Stop::Damaged(rejection), tried, rejected, at),
         }
     }
-    p.report
+    let stop = if log.len() <= at { Stop::Ended } else { Stop::Spent };
+    stopped(stop, budget, rejected, at)
 }
 
 // The same on a tally by value.

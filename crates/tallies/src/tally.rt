@@ -1,13 +1,12 @@
 // A tally of rejections: a count for each host, and one for the steps that name none.
-ghost use Rattle.std.specs.Prelude.{◌≡◌};
+ghost use Rattle.std.specs.Prelude.{◌≡◌, unwrap_or};
+ghost use Rattle.rejection_hosts.specs.RejectionHosts.{no_host};
 ghost use Rattle.tallies.specs.TallyCounts.{counted_in, nothing_counted, CountRoom};
 
-use rejection_hosts::NO_HOST;
-
-// Hosts are 0 to 15. The number after them, `NO_HOST`, is that of the count of no host.
+// Hosts are 0 to 15.
 pub const HOSTS: usize = 16;
 
-#[derive(Drop)]
+#[derive(Debug, Drop, PartialEq, Eq)]
 pub struct Tally {
     pub hosts: [u64; HOSTS],
     pub none: u64,
@@ -23,14 +22,13 @@ pub fn zero() -> Tally
     }
 }
 
-// Adds one to the count of a host, in place; to that of no host where the number is no host's.
-pub fn count(tally: &mut Tally, host: u64)
-    requires { CountRoom tally.old host }
-    ensures { tally.new ≡ counted_in tally.old host }
+// Adds one to the count of a host, in place; to that of no host where there is none, or where the number is no host's.
+pub fn count(tally: &mut Tally, host: Option<u64>)
+    requires { CountRoom tally.old (unwrap_or host no_host) }
+    ensures { tally.new ≡ counted_in tally.old (unwrap_or host no_host) }
 {
-    if host < NO_HOST {
-        tally.hosts[host as usize] += 1;
-    } else {
-        tally.none += 1;
+    match host {
+        Some(host) if host < HOSTS as u64 => tally.hosts[host as usize] += 1,
+        _ => tally.none += 1,
     }
 }

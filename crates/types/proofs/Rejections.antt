@@ -4,7 +4,7 @@ use mathlib.Core.Path.{◌≡◌, refl, sym}
 use mathlib.Core.Bool.{Bool, true, false, cond, not, true≢false}
 use lib.Dec.{ltb, eqb}
 use native.Mathlib.Omega.{arith}
-use borrow.Author.Tests.{eqb-true, ltb-true}
+use borrow.Author.Tests.{eqb-true, eqb-false, ltb-true}
 use Rattle.std.specs.Prelude.{Result, Ok, Err, is_err}
 use Rattle.types.specs.declared.rejection.Rejection.{Rejection}
 use Rattle.types.specs.declared.rejection.Rejection.TheVariants.{StateLength, Plan, KeptKind, UnknownKind, LogEnds, NumberForm, OutOfRange, OutputLength, NotWellFormed, NotInstalled, NotMember, WrongMode, NoSource, IsOrderer, EntryHeld, HistoryFull, NotSequencer, NotLonger, NotAlike, NoIssue, WrongIndex, IssuedBefore, RivalIssue, NotWedged}
@@ -110,3 +110,6 @@ rejected_answer r x = rw (number_not_0 r, numbered_back r)
 pub error_number : {A : Type 0} (r : Result A Rejection) → eqb (answer_number r) 0 ≡ not (is_err r)
 error_number (Ok x) = refl
 error_number (Err e) = number_not_0 e
+
+pub number_positive : (r : Rejection) → rejection_number r ≡ 0 → ⊥
+number_positive r = eqb-false (rejection_number r) 0 (number_not_0 r)
