@@ -7,7 +7,13 @@ use mathlib.Core.Bool.{Bool, true, false, cond, not, ◌&&◌}
 use mathlib.Core.List.{List}
 use lib.Dec.{eqb}
 use lib.ListN.{length}
-use borrow.Author.Tests.{le-leb, lt-leb, eq-eqb, ne_eqb, not-true, not-false}
+use borrow.Author.Tests.{le-leb, lt-leb, eqb-false}
+use Rattle.std.specs.Prelude.{Ok}
+use Rattle.types.specs.declared.kind.Kind.{Kind}
+use Rattle.types.specs.declared.rejection.Rejection.{Rejection}
+use Rattle.types.specs.declared.rejection.Rejection.TheVariants.{StateLength, OutOfRange, NotWellFormed}
+use Rattle.types.specs.Rejections.{rejection_number}
+use Rattle.types.proofs.Rejections.{number_not_0}
 use Rattle.types.specs.declared.step.Step.{Step}
 use Rattle.model.specs.Checks.{first_of}
 use Rattle.types.specs.Kinds.{kind_of, is_kept, is_unknown}
@@ -16,7 +22,7 @@ use Rattle.model.specs.WellFormed.{well_formed}
 use Rattle.types.specs.StepNames.{shard_of, configuration_of}
 use Rattle.model.specs.Steps.{are_numbers, in_range, kind_checks, step_checks, rejection, after}
 use Rattle.model.proofs.WellFormedSteps.{after_rejected}
-use Rattle.model.proofs.Lengths.{several}
+use Rattle.machine.specs.Inside.{HasShards}
 use Rattle.step_numbers.specs.StepRanges.{is_index_of, range_rejection}
 
 -- 3, 4 and 7 of the kind, the shard and the index as one, and 7 of the other numbers
@@ -28,7 +34,8 @@ ladder true true false t k = refl
 ladder true false i t k = refl
 ladder false b i t k = refl
 
--- n is the number of shards, as the code counted it
+-- ---- a step on a state
+
 module _ (w : List ℕ) (s : Step) where
   -- what the checks of the step's kind answer
   answer : ℕ
@@ -49,40 +56,35 @@ module _ (w : List ℕ) (s : Step) where
       (cond (well_formed w) answer 9))
 
   -- a step that is rejected leaves the state
-  rejected : {r : ℕ} → rejection w s ≡ r → (r ≡ 0 → ⊥) → (r ≡ rejection w s) × (w ≡ after w s)
-  rejected e m = (sym e, sym (after_rejected w s (λ q. m (sym e ∙ q))))
+  rejected : (r : Rejection) → rejection w s ≡ rejection_number r → (rejection_number r ≡ rejection w s) × (w ≡ after w s)
+  rejected r e = (sym e, sym (after_rejected w s (λ q. eqb-false _ _ (number_not_0 r) (sym e ∙ q))))
 
-  module _ {n : ℕ} (c : n ≡ shards_of (length w)) where
-    pub rejects_length : n ≡ 0 → (1 ≡ rejection w s) × (w ≡ after w s)
+  pub rejects_length : shards_of (length w) ≡ 0 → (1 ≡ rejection w s) × (w ≡ after w s)
+  unfolding is_state_length
+  rejects_length e = rejected StateLength (rejection_is ∙ rw (lt-leb 2 (shards_of (length w)) (omega (arith, e))))
+
+  -- n is the number of shards, as the code counted it
+  module _ {n : ℕ} (h : HasShards w n) where
+    length_passes : is_state_length (length w) ≡ true
     unfolding is_state_length
-    rejects_length e = rejected (rejection_is ∙ rw (lt-leb 2 (shards_of (length w)) (omega (arith, e, c)))) (λ q. omega arith)
+    length_passes = le-leb 2 (shards_of (length w)) h.several
 
-    module _ (l : n ≡ 0 → ⊥) where
-      length_passes : is_state_length (length w) ≡ true
-      unfolding is_state_length
-      length_passes = le-leb 2 (shards_of (length w)) (several (length w) (λ q. l (c ∙ q)))
+    -- r is the number of the rejection of the step's kind, shard and index
+    early_is : {r : ℕ} → r ≡ range_rejection n s → early ≡ r
+    unfolding early
+    early_is e = ap (λ (m : ℕ). range_rejection m s) (sym h.count) ∙ sym e
 
-      -- r is the rejection of the step's kind, shard and index
-      module _ {r : ℕ} (e : r ≡ range_rejection n s) where
-        early_is : early ≡ r
-        unfolding early
-        early_is = ap (λ (m : ℕ). range_rejection m s) (sym c) ∙ sym e
+    pub rejects_early : (x : Rejection) → rejection_number x ≡ range_rejection n s → (rejection_number x ≡ rejection w s) × (w ≡ after w s)
+    rejects_early x e = rejected x (rejection_is ∙ rw (length_passes, early_is e, number_not_0 x))
 
-        pub rejects_early : (r ≡ 0 → ⊥) → (r ≡ rejection w s) × (w ≡ after w s)
-        rejects_early m = rejected (rejection_is ∙ rw (length_passes, early_is, ne_eqb r 0 m)) m
+    -- k is the kind, and t the test of the other numbers
+    module _ (e : 0 ≡ range_rejection n s) {k : Kind} (o : Ok k ≡ kind_of s.kind) {t : Bool} (q : t ≡ are_numbers (Ok k) n s.c s.d) where
+      numbers_are : numbers ≡ t
+      unfolding numbers
+      numbers_are = rw (← o, ← h.count) (sym q)
 
-        -- t is the test of the other numbers
-        module _ (z : r ≡ 0) {t : Bool} (q : t ≡ are_numbers (kind_of s.kind) n s.c s.d) where
-          numbers_are : numbers ≡ t
-          unfolding numbers
-          numbers_are = rw (← c, q)
+      pub rejects_numbers : t ≡ false → (7 ≡ rejection w s) × (w ≡ after w s)
+      rejects_numbers m = rejected OutOfRange (rejection_is ∙ rw (length_passes, early_is e, numbers_are, m))
 
-          pub rejects_numbers : not t ≡ true → (7 ≡ rejection w s) × (w ≡ after w s)
-          rejects_numbers m =
-              rejected (rejection_is ∙ rw (length_passes, early_is, eq-eqb r 0 z, numbers_are, not-true t m)) (λ o. omega arith)
-
-          pub rejects_form : not t ≡ false → {f : Bool} → f ≡ well_formed w → not f ≡ true → (9 ≡ rejection w s) × (w ≡ after w s)
-          rejects_form m {f} g l =
-              rejected
-              (rejection_is ∙ rw (length_passes, early_is, eq-eqb r 0 z, numbers_are, not-false t m, sym g ∙ not-true f l))
-              (λ o. omega arith)
+      pub rejects_form : t ≡ true → {f : Bool} → f ≡ well_formed w → f ≡ false → (9 ≡ rejection w s) × (w ≡ after w s)
+      rejects_form m g l = rejected NotWellFormed (rejection_is ∙ rw (length_passes, early_is e, numbers_are, m, sym g ∙ l))

@@ -1,17 +1,23 @@
 -- `machine::step_inside` meets its contract.
-use mathlib.Core.Path.{sym, ◌∙◌}
+use Rattle.std.proofs.lemmas.Result.{err_from_is_err_and}
 use Rattle.machine.proofs.Ladders.{rejects_early}
-use Rattle.machine.proofs.ByKind.{has_shards}
 use Rattle.machine.proofs.step_inside.Goals as goal
 
-pub returns-then-early-ne0 : goal.returns-then-early-ne0
-returns-then-early-ne0 c =
-    let a = c.args in
-    let t = rejects_early a.state.now a.s c.requires.1 (has_shards c.requires.0 c.requires.1) c.range_rejection-early.ensures c.if-early-ne0.true in
-    record { value = t.0; state_after = t.1 }
+pub returns-in_err-kind : goal.returns-in_err-kind
+returns-in_err-kind c =
+    let p = err_from_is_err_and c.from_residual.result c.from_residual.ensures.1 in
+    let t = rejects_early c.args.state.now c.args.s (record { count = c.requires.1; several = c.requires.0.several }) _
+    c.in_err-kind.ensures.value in
+    rw (p.1, p.2) (record { value = t.0; state_after = t.1 })
 
 pub act-requires : goal.act-requires
-act-requires c = record { state = c.requires.0; count = c.requires.1; range = sym c.range_rejection-early.ensures ∙ c.if-early-ne0.false }
+act-requires c =
+    record {
+      state = c.requires.0;
+      count = c.requires.1;
+      kind = c.in_ok-kind.ensures.kind;
+      range = c.in_ok-kind.ensures.value;
+    }
 
 pub returns : goal.returns
 returns c = record { value = c.act.ensures.value; state_after = c.act.ensures.state_after }
