@@ -17,8 +17,8 @@ const FEWEST_SHARDS: usize = 2;
 
 const MOST_SHARDS: usize = 8;
 
-// The number of shards of a state of `len` words, 0 where no state has that length. All lengths are compared, without a division and without an early exit:
-// `find` or a `match` takes three times as long where lengths change from call to call.
+// The number of shards of a state of `len` words, 0 where no state has that length. The seven lengths are compared, with no division, and with no early
+// exit: `find` or a `match` takes three times as long where the length changes from call to call.
 pub fn shard_count(len: usize) -> usize
     ensures { result ≡ shards_of len }
 {
