@@ -18,6 +18,7 @@ use Rattle.types.specs.declared.Stop.TheVariants.{Ended, Spent, Damaged}
 use Rattle.types.specs.declared.Report.{Report}
 use Rattle.model.specs.Steps.{rejection, after}
 use Rattle.model.specs.Log.{read_step, from, read_at, with_step, stopped, is_empty, log_after, read_log}
+use Rattle.model.specs.Results.{reading_step, reading_next}
 use Rattle.model.specs.Replay.{after_all, rejected_in}
 use Rattle.model.proofs.RoundTrip.{step_least, step_within}
 use Rattle.replay.specs.Run.{report_of, run_report, after_run}
@@ -50,11 +51,11 @@ rest_start w log budget =
 -- what was read at a position
 pub read_step_lem : (log : List ℕ) (at : ℕ) (s : Step) (next : ℕ) → read_at log at ≡ one_step s next
     → (n : ℕ) × (read_step (drop at log) ≡ one_step s n) × (next ≡ at + n)
-unfolding read_at from
+unfolding read_at from reading_step reading_next
 read_step_lem log at s next e = go (read_step (drop at log)) refl e
   where
     go : (x : ReadStep) → read_step (drop at log) ≡ x → from at x ≡ one_step s next → (n : ℕ) × (read_step (drop at log) ≡ one_step s n) × (next ≡ at + n)
-    go (Ok (Some read)) q p = (read.next, q ∙ (cc), (cc))
+    go (Ok (Some read)) q p = (read.next, q ∙ ap (λ (t : Step). one_step t read.next) (ap reading_step p), sym (ap reading_next p))
     go (Ok None) q p = absurd (let z : ◌≡◌ {A = ℕ} 0 1 = cc in omega arith)
     go (Err r) q p = absurd (let z : ◌≡◌ {A = ℕ} 0 1 = cc in omega arith)
 

@@ -2,10 +2,10 @@
 -- Assumes nothing.
 use Prim.Native.Nat.{ℕ, ◌≤◌}
 use native.Mathlib.Omega.{arith}
-use mathlib.Core.Path.{◌≡◌, refl, sym, ◌∙◌}
+use mathlib.Core.Path.{◌≡◌, refl, ap, ◌∙◌}
 use mathlib.Core.List.{List, [], ◌∷◌}
 use lib.ListN.{length}
-use borrow.Author.Tests.{leb-true, eq-eqb, ne_eqb}
+use borrow.Author.Tests.{leb-true}
 use Rattle.types.specs.declared.Report.{Report}
 use Rattle.std.specs.Prelude.{Result, Ok, Err}
 use Rattle.types.specs.declared.rejection.Rejection.{Rejection}
@@ -14,12 +14,12 @@ use Rattle.types.proofs.Rejections.{number_not_0, rejected_answer}
 use Rattle.model.specs.Checks.{◌or_else◌}
 use Rattle.model.specs.Layout.{shards_of, is_state_length}
 use Rattle.model.specs.WellFormed.{well_formed}
-use Rattle.model.specs.Replay.{after_all, rejected_in, replay_rejection, replayed, report, after_replay}
+use Rattle.model.specs.Replay.{after_all, replay_rejection, replayed, report, after_replay}
 use Rattle.model.proofs.Checks.{passed}
 use Rattle.model.proofs.Results.{Told, replays}
 use Rattle.lookup.proofs.Formed.{formed_of}
 use Rattle.lookup.specs.Ready.{Formed}
-use Rattle.replay.specs.Run.{report_of, run_report, after_run}
+use Rattle.replay.specs.Run.{run_report, after_run}
 
 -- what is answered and left, in numbers and as a value
 abbrev pub Reports : List ℕ → List ℕ → ℕ → Result Report Rejection → List ℕ → Type 0
