@@ -5,7 +5,7 @@ use native.Mathlib.Omega.{arith}
 use mathlib.Core.Path.{◌≡◌, sym, ap, ◌∙◌}
 use mathlib.Core.List.{List, [], ◌∷◌, ◌++◌}
 use lib.ListN.{length, take, drop, replicate, length-append}
-use lib.Seq.{sets, take-append_seam}
+use lib.Seq.{sets, take-append_seam, length-take-le}
 use borrow.Author.Tests.{le-leb, lt-leb, ne_eqb}
 use Rattle.histories.specs.declared.trace.HostTrace.{HostTrace}
 use Rattle.stable_entries.specs.Listing.{after_listing_of}
@@ -41,6 +41,13 @@ module _ (w : List ℕ) (z i h : ℕ) {t : HostTrace} (e : t ≡ traced w z i h)
   unfolding listed padded
   within = rw (count_is, ap (λ (x : HostTrace). x.hosts) is_listed, length-append) (omega arith)
 
+  -- .. in both words that are copied
+  pub of_hosts : length (take t.count t.hosts) ≡ t.count
+  of_hosts = length-take-le t.count t.hosts within
+
+  pub of_output : (out : List ℕ) → 7 ≤ length out → length (take t.count out) ≡ t.count
+  of_output out r = length-take-le t.count out (omega (arith, few, r))
+
   boxes : take t.count t.hosts ≡ trace_of w z (i - 1) h
   unfolding listed padded
   boxes =
@@ -67,12 +74,11 @@ module _ (w : List ℕ) (z i h : ℕ) (out count : List ℕ) where
       rejects n =
           counted _ _ _ _ _ one (sym answer_is) (rw (answer_is, ne_eqb t.answer 0 n)) (rw (answer_is, ne_eqb t.answer 0 n))
 
-      pub done : t.answer ≡ 0 → {n : ℕ} → n ≡ t.count → {last after : List ℕ}
-          → last ≡ take n t.hosts ++ drop (length (take n t.hosts)) out
-          → after ≡ sets count 0 (t.count ∷ [])
-          → Leaves w z i h out count 0 last after
+      pub done : t.answer ≡ 0 → {l after : List ℕ} → l ≡ take t.count t.hosts → after ≡ sets count 0 (t.count ∷ [])
+          → Leaves w z i h out count 0 (l ++ drop t.count out) after
       unfolding trace_answer boxes_after box_count_after after_listing_of
-      done a {n} q p c =
-          let is : take n t.hosts ≡ trace_of w z (i - 1) h = ap (λ (m : ℕ). take m t.hosts) q ∙ boxes w z i h e a in
+      done a p c =
+          let is = boxes w z i h e a in
+          let many = count_is w z i h e a in
           let none : boxes_rejection w z i h out ≡ 0 = answer_is ∙ a in
-          counted _ _ _ _ _ one (sym none) (rw none (p ∙ rw is)) (rw none (c ∙ rw (count_is w z i h e a)))
+          counted _ _ _ _ _ one (sym none) (rw none (rw (p ∙ is, many))) (rw none (c ∙ rw many))

@@ -5,6 +5,7 @@ ghost use Rattle.word_outputs.specs.TraceOutputs.{trace_answer, boxes_after, box
 use histories::trace::MOST_HOSTS;
 
 // Copies the boxes of a seat's trace to an output, nearest first: 0 and their count, or the rejection and nothing written.
+#[tactic(auto, using(crate::proofs::TraceOutputs::few, crate::proofs::TraceOutputs::within, crate::proofs::TraceOutputs::of_hosts, crate::proofs::TraceOutputs::of_output))]
 #[unsafe(no_mangle)]
 pub extern "C" fn penkwadar_trace(
     state: &[u64],

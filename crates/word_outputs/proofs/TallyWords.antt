@@ -4,9 +4,9 @@ use Prim.Native.Nat.{ℕ, ◌+◌, ◌≤◌, ◌<◌}
 use native.Mathlib.Nat.{zero-add}
 use native.Mathlib.Omega.{arith}
 use mathlib.Core.Path.{◌≡◌, sym, ap, ◌∙◌}
-use mathlib.Core.List.{List, [], ◌∷◌, ◌++◌, append_assoc, append-nil}
-use lib.ListN.{length, get_or, take, drop, set, replicate, length-append, take-append-drop}
-use lib.Seq.{sets, sets-eq, take_all, take-suc, drop-cons, set-append_seam, length-take-le}
+use mathlib.Core.List.{List, [], ◌∷◌, ◌++◌, append_assoc}
+use lib.ListN.{length, get_or, take, drop, set, length-append, take-append-drop}
+use lib.Seq.{sets, sets-eq, take-suc, drop-cons, set-append_seam, length-take-le}
 use Rattle.tallies.specs.declared.tally.Tally.{Tally}
 use Rattle.word_outputs.specs.TallyWords.{tally_words, tally_in}
 
