@@ -11,6 +11,8 @@ use Rattle.types.specs.declared.step.Step.{Step}
 use Rattle.types.specs.Members.{is_host}
 use Rattle.model.specs.Steps.{rejection, after}
 use Rattle.model.specs.Log.{read_log}
+use Rattle.types.specs.Rejections.{answered}
+use Rattle.model.specs.Results.{report_rejected}
 use Rattle.model.specs.Replay.{rejected_in, replayed, report}
 use Rattle.tallies.specs.Tally.{is_rejection_of, rejections_of, host_counts, tally_of, tally_after}
 use Rattle.rejection_hosts.specs.RejectionHosts.{no_host, named_host, count_of}
@@ -106,7 +108,7 @@ never_counted (s ∷ ss) w h l n =
     skipped false b e = refl
 
 pub tally_laws : TallyLaws
-unfolding tally_after tally_of replayed report
+unfolding tally_after tally_of replayed report answered report_rejected
 tally_laws =
     record {
       sums = λ t w log budget z. rw z (total_is w (read_log budget log).steps);

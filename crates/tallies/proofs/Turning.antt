@@ -7,20 +7,20 @@ use mathlib.Core.Path.{◌≡◌, refl, sym, ap, ◌∙◌}
 use mathlib.Core.Bool.{Bool, true, false, cond}
 use mathlib.Core.List.{List}
 use lib.Dec.{eqb}
-use lib.ListN.{length, drop}
+use lib.ListN.{drop}
 use borrow.Author.Tests.{eq-eqb, ne_eqb}
-use Rattle.std.specs.Prelude.{Result, Ok, Err}
+use Rattle.std.specs.Prelude.{Result}
 use Rattle.types.specs.declared.rejection.Rejection.{Rejection}
 use Rattle.types.specs.declared.step.Step.{Step}
 use Rattle.types.specs.declared.Stop.{Stop}
 use Rattle.types.specs.declared.Report.{Report}
 use Rattle.types.specs.Kinds.{kind_of}
-use Rattle.types.specs.Rejections.{rejection_number, answer_number}
+use Rattle.types.specs.Rejections.{rejection_number}
 use Rattle.types.specs.Rules.{Known}
 use Rattle.types.proofs.Rejections.{number_positive}
 use Rattle.model.specs.Steps.{rejection, after}
 use Rattle.model.specs.Log.{one_step, read_at, read_log, stopped}
-use Rattle.model.specs.Replay.{replay_rejection, replayed, report, after_replay}
+use Rattle.model.specs.Replay.{report}
 use Rattle.model.proofs.Results.{replays}
 use Rattle.model.proofs.RoundTrip.{step_given}
 use Rattle.model.proofs.WellFormedSteps.{after_rejected}
@@ -29,7 +29,7 @@ use Rattle.replay.proofs.Rest.{read_step_lem, reads_step}
 use Rattle.replay.proofs.Running.{start, turn_rejected, turn_accepted}
 use Rattle.tallies.specs.declared.tally.Tally.{Tally}
 use Rattle.tallies.specs.Returns.{Returns}
-use Rattle.tallies.specs.Tally.{tally_of, tally_after}
+use Rattle.tallies.specs.Tally.{tally_of}
 use Rattle.rejection_hosts.specs.RejectionHosts.{no_host, count_of, RejectedStep}
 use Rattle.tallies.specs.TallyCounts.{nothing_counted, counted_in, CountRoom}
 use Rattle.tallies.proofs.TallyCounts.{tally_from, counted_at, counted_long, count_most, nothing_at, nothing_long, tally_from_nothing}
@@ -65,9 +65,9 @@ known_step log at s next e =
 
 module _ {w₀ log : List ℕ} {budget : ℕ} {w : List ℕ} {at tried rejected : ℕ} {t : Tally} (u : Underway w₀ log budget w at tried rejected t) where
   -- nothing more is read: the tally is that of all steps
-  pub tally_told : {x : Stop} → read_log (budget - tried) (drop at log) ≡ stopped x → t ≡ tally_of w₀ (read_log budget log).steps
+  pub tally_told : (x : Stop) → read_log (budget - tried) (drop at log) ≡ stopped x → t ≡ tally_of w₀ (read_log budget log).steps
   unfolding stopped tally_from
-  tally_told e = sym (rw e at u.tally_is) ∙ tally_from_nothing w₀ (read_log budget log).steps
+  tally_told x e = sym (rw e at u.tally_is) ∙ tally_from_nothing w₀ (read_log budget log).steps
 
   -- a step is read and tried: r is its answer, and v the state that it leaves
   module _ (s : Step) (next : ℕ) (h : tried < budget) (e : read_at log at ≡ one_step s next)

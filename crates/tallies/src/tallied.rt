@@ -64,7 +64,11 @@ fn run(state: &mut [u64], shards: usize, log: &[u8], budget: u64, tally: &mut Ta
             Err(rejection) => return stopped(Stop::Damaged(rejection), tried, rejected, at),
         }
     }
-    let stop = if log.len() <= at { Stop::Ended } else { Stop::Spent };
+    let stop = if log.len() <= at {
+        Stop::Ended
+    } else {
+        Stop::Spent
+    };
     stopped(stop, budget, rejected, at)
 }
 
