@@ -6,6 +6,7 @@ use native.Mathlib.Nat.{zero-add}
 use mathlib.Core.Path.{◌≡◌, refl, sym, ◌∙◌}
 use mathlib.Core.List.{List, [], ◌∷◌, ◌++◌, append-nil, append_assoc}
 use lib.ListN.{length, length-append, get_or, take}
+use Rattle.decimal_text.proofs.Appending.{appending}
 use Rattle.csv_rows.specs.Rows.{history_rows, shard_rows}
 use Rattle.csv_rows.specs.Csv.{rows_text}
 use Rattle.csv_rows.specs.Room.{entry_text, history_text, shard_text}
@@ -44,7 +45,9 @@ rows_room z p (e ∷ es) zero h =
     rw (here, length-append (entry_text z p e) (rows_text (history_rows z (suc p) es))) (omega arith)
 rows_room z p (e ∷ es) (suc i) h =
     let here : p + suc i ≡ suc p + i = omega arith in
-    rw (here, length-append (entry_text z p e) (rows_text (history_rows z (suc p) (take i es))), length-append (entry_text z p e) (rows_text (history_rows z (suc p) es)))
+    let first = length-append (entry_text z p e) (rows_text (history_rows z (suc p) (take i es))) in
+    let all = length-append (entry_text z p e) (rows_text (history_rows z (suc p) es)) in
+    rw (here, first, all)
     (omega (arith, rows_room z (suc p) es i (omega arith)))
 
 pub history_room : (z : ℕ) (es : List ℕ) (i : ℕ) → i < length es
@@ -53,7 +56,7 @@ unfolding history_text
 history_room z es i h = rw (zero-add i) at (rows_room z 0 es i h)
 
 -- with these the check finds by itself that a loop over a history takes its rows one by one
-pub ruleset history_parts = (history_none, history_more, history_room)
+pub ruleset history_parts = (appending, history_none, history_more, history_room)
 
 -- ---- a state
 
@@ -90,4 +93,4 @@ shards_room w i (suc n) h =
       | no l ↦ let same : i ≡ n = omega arith in rw same (omega (arith, one))
     ]
 
-pub ruleset shard_parts = (shards_none, shards_more, shards_room)
+pub ruleset shard_parts = (appending, shards_none, shards_more, shards_room)

@@ -16,7 +16,7 @@ use Rattle.csv_rows.specs.Rows.{rows}
 use Rattle.csv_rows.specs.Csv.{header, csv}
 use Rattle.csv_rows.specs.Room.{history_text, shard_text, FormedOf}
 use Rattle.records.specs.LargestCsv.{header_bytes, shard_most, csv_most, LargestCsv}
-use Rattle.csv_rows.proofs.TextParts.{first_shards}
+use Rattle.csv_rows.proofs.TextParts.{first_shards, shard_parts}
 use Rattle.records.proofs.LargestCsv.{csv_largest}
 
 -- the rows of a shard's stable history are the shard's part
@@ -42,11 +42,12 @@ module _ {w : List ℕ} {n : ℕ} (f : FormedOf w n) where
 
   pub rows_bound : length (first_shards w n) ≤ csv_most
   rows_bound =
-      let e : length (csv w) ≡ length (row_text header) + length (first_shards w n) = rw (csv_parts w, f.shards) (length-append (row_text header) (first_shards w (shards_of (length w)))) in
+      let e : length (csv w) ≡ length (row_text header) + length (first_shards w n) =
+      rw (csv_parts w, f.shards) (length-append (row_text header) (first_shards w (shards_of (length w)))) in
       omega (arith, e, (largest f.formed).all)
 
   pub few_shards : n ≤ 8
   few_shards = omega (arith, f.shards, shards_most (length w))
 
 -- with these the check finds by itself that a loop over the shards takes their parts one by one
-pub ruleset state_parts = (shard_part, of_shard, csv_parts, rows_bound)
+pub ruleset state_parts = (shard_parts, shard_part, of_shard, csv_parts, rows_bound)

@@ -16,7 +16,7 @@ pub const HEADER_BYTES: usize = 23;
 pub const SHARD_MOST: usize = 1278;
 
 // How long the text of a well-formed state is.
-#[tactic(auto, using(decimal_text::proofs::Appending::appending, csv_rows::proofs::TextParts::shard_parts, crate::proofs::StateText::state_parts), unfolding(csv_rows::specs::Format::row_text))]
+#[tactic(auto, using(crate::proofs::StateText::state_parts), unfolding(csv_rows::specs::Format::row_text))]
 pub fn text_length(state: &[u64], shards: usize) -> usize
     requires { FormedOf state.now shards }
     ensures { result ≡ length (csv state.now) }
@@ -41,7 +41,7 @@ pub fn write_text(out: &mut [u8], state: &[u64], shards: usize) -> usize
 }
 
 // Appends the text of a well-formed state.
-#[tactic(auto, using(decimal_text::proofs::Appending::appending, csv_rows::proofs::TextParts::shard_parts, crate::proofs::StateText::state_parts), unfolding(csv_rows::specs::Format::row_text))]
+#[tactic(auto, using(crate::proofs::StateText::state_parts), unfolding(csv_rows::specs::Format::row_text))]
 fn append_text(text: &mut Text<'_>, state: &[u64], shards: usize)
     requires of { FormedOf state.now shards }
     requires room { HasRoom text.old (csv state.now) }

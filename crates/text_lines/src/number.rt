@@ -25,7 +25,7 @@ pub fn append_word(text: &mut Text<'_>, word: &[u8], n: u64)
 }
 
 // Appends a space and a number for each of several numbers.
-#[tactic(auto, using(decimal_text::proofs::Appending::appending, crate::proofs::Spaced::spaced_more, crate::proofs::Spaced::spaced_room), unfolding(model::specs::Transcript::spaced_all))]
+#[tactic(auto, using(crate::proofs::Spaced::number_parts), unfolding(model::specs::Transcript::spaced_all))]
 pub fn append_all_spaced(text: &mut Text<'_>, numbers: &[u64])
     requires { HasRoom text.old (spaced_all numbers.now) }
     ensures { Appended text.old (spaced_all numbers.now) text.new }
