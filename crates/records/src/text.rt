@@ -5,9 +5,9 @@ ghost use Rattle.decimal_text.specs.Appended.{HasRoom, Appended};
 ghost use Rattle.csv_rows.specs.Csv.{csv};
 ghost use Rattle.csv_rows.specs.Room.{FormedOf};
 
-use crate::shard::stable_history;
 use csv_rows::history::{append_history, history_length};
 use decimal_text::text::Text;
+use stable_entries::history::stable_history;
 
 // How long the header row is.
 pub const HEADER_BYTES: usize = 23;

@@ -3,6 +3,7 @@
 #![tactic(auto)]
 
 pub mod copy;
+pub mod history;
 pub mod pick;
 
 // How many entries were copied, or the rejection.
