@@ -11,6 +11,7 @@ use decimal_text::text::Text;
 const FIRST_PLACE: u64 = 0;
 
 // How long the rows of a history are.
+#[tactic(auto, using(crate::proofs::TextParts::history_parts, crate::proofs::RowTexts::history_bytes))]
 pub fn history_length(shard: u64, entries: &[u64]) -> usize
     requires { length entries.now ≤ most_entries }
     ensures { result ≡ length (history_text shard entries.now) }
@@ -23,6 +24,7 @@ pub fn history_length(shard: u64, entries: &[u64]) -> usize
 }
 
 // Appends the rows of a history.
+#[tactic(auto, using(crate::proofs::TextParts::history_parts))]
 pub fn append_history(text: &mut Text<'_>, shard: u64, entries: &[u64])
     requires { HasRoom text.old (history_text shard entries.now) }
     ensures { Appended text.old (history_text shard entries.now) text.new }

@@ -2,5 +2,4 @@
 pub mod DecimalLaws
 pub mod LastDigits
 pub mod Digits
-pub mod PartLoops
 pub mod Appending

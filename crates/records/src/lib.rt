@@ -10,7 +10,6 @@ ghost use Rattle.csv_rows.specs.Csv.{csv_rejection, csv_count, csv_writing, afte
 use crate::text::{HEADER_BYTES, SHARD_MOST};
 use types::Writing;
 
-mod shard;
 mod text;
 
 // Writes the text of a state: its length, or the rejection (1, 9 or 8), which leaves the output untouched.

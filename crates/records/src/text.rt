@@ -5,9 +5,9 @@ ghost use Rattle.decimal_text.specs.Appended.{HasRoom, Appended};
 ghost use Rattle.csv_rows.specs.Csv.{csv};
 ghost use Rattle.csv_rows.specs.Room.{FormedOf};
 
-use crate::shard::stable_history;
 use csv_rows::history::{append_history, history_length};
 use decimal_text::text::Text;
+use stable_entries::history::stable_history;
 
 // How long the header row is.
 pub const HEADER_BYTES: usize = 23;
@@ -16,6 +16,7 @@ pub const HEADER_BYTES: usize = 23;
 pub const SHARD_MOST: usize = 1278;
 
 // How long the text of a well-formed state is.
+#[tactic(auto, using(crate::proofs::StateText::state_parts), unfolding(csv_rows::specs::Format::row_text))]
 pub fn text_length(state: &[u64], shards: usize) -> usize
     requires { FormedOf state.now shards }
     ensures { result ≡ length (csv state.now) }
@@ -40,6 +41,7 @@ pub fn write_text(out: &mut [u8], state: &[u64], shards: usize) -> usize
 }
 
 // Appends the text of a well-formed state.
+#[tactic(auto, using(crate::proofs::StateText::state_parts), unfolding(csv_rows::specs::Format::row_text))]
 fn append_text(text: &mut Text<'_>, state: &[u64], shards: usize)
     requires of { FormedOf state.now shards }
     requires room { HasRoom text.old (csv state.now) }

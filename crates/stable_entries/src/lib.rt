@@ -3,4 +3,5 @@
 #![tactic(auto)]
 
 pub mod copy;
+pub mod history;
 pub mod pick;

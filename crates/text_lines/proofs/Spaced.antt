@@ -1,23 +1,27 @@
 -- Numbers with a space before each, one by one.
 -- Assumes nothing.
-use Prim.Native.Nat.{ℕ, suc, ◌<◌}
-use native.Mathlib.Omega.{arith}
-use mathlib.Core.Path.{◌≡◌}
-use mathlib.Core.List.{List, ◌++◌}
-use lib.ListN.{length, get_or, drop, drop_of_length-le}
-use lib.Seq.{drop-cons}
+use Rattle.std.proofs.Common.{ℕ, ◌+◌, ◌≤◌, ◌<◌, ◌≡◌, List, [], ◌∷◌, ◌++◌, length, get_or, take, zero, suc, arith, append-nil, append_assoc, length-append, sym}
+use Rattle.decimal_text.proofs.Appending.{appending}
 use Rattle.model.specs.Transcript.{spaced, spaced_all}
-use Rattle.decimal_text.proofs.PartLoops.{InParts}
 
--- those from place i on
-abbrev pub numbers_left : List ℕ → ℕ → List ℕ
-numbers_left numbers i = spaced_all (drop i numbers)
+-- the first i + 1 numbers are the first i and one more
+pub spaced_more : (numbers : List ℕ) (i : ℕ) → i < length numbers
+    → spaced_all (take (i + 1) numbers) ≡ spaced_all (take i numbers) ++ spaced (get_or numbers i 0)
+unfolding spaced_all
+spaced_more [] i h = absurd (omega arith)
+spaced_more (n ∷ ns) zero h = append-nil (spaced n)
+spaced_more (n ∷ ns) (suc i) h =
+    let next : suc i + 1 ≡ suc (i + 1) = omega arith in
+    rw (next, spaced_more ns i (omega arith)) (sym (append_assoc (spaced n) (spaced_all (take i ns)) (spaced (get_or ns i 0))))
 
-module _ (numbers : List ℕ) where
-  next_number : (i : ℕ) → i < length numbers → numbers_left numbers i ≡ spaced (get_or numbers i 0) ++ numbers_left numbers (suc i)
-  unfolding spaced_all
-  next_number i h = rw (drop-cons numbers i 0 h)
+-- they have room where all have
+pub spaced_room : (numbers : List ℕ) (i : ℕ) → i < length numbers
+    → length (spaced_all (take i numbers)) + length (spaced (get_or numbers i 0)) ≤ length (spaced_all numbers)
+unfolding spaced_all
+spaced_room [] i h = absurd (omega arith)
+spaced_room (n ∷ ns) zero h = rw (length-append (spaced n) (spaced_all ns)) (omega arith)
+spaced_room (n ∷ ns) (suc i) h =
+    rw (length-append (spaced n) (spaced_all (take i ns)), length-append (spaced n) (spaced_all ns)) (omega (arith, spaced_room ns i (omega arith)))
 
-  pub spaced_parts : InParts (length numbers) (λ i. spaced (get_or numbers i 0)) (numbers_left numbers)
-  unfolding spaced_all
-  spaced_parts = record { next = next_number; last = rw (drop_of_length-le numbers {i = length numbers} (omega arith)) }
+-- with these the check finds by itself that a loop over numbers takes them one by one
+pub ruleset number_parts = (appending, spaced_more, spaced_room)

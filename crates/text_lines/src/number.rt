@@ -25,6 +25,7 @@ pub fn append_word(text: &mut Text<'_>, word: &[u8], n: u64)
 }
 
 // Appends a space and a number for each of several numbers.
+#[tactic(auto, using(crate::proofs::Spaced::number_parts), unfolding(model::specs::Transcript::spaced_all))]
 pub fn append_all_spaced(text: &mut Text<'_>, numbers: &[u64])
     requires { HasRoom text.old (spaced_all numbers.now) }
     ensures { Appended text.old (spaced_all numbers.now) text.new }

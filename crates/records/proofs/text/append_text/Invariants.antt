@@ -1,8 +1,10 @@
 -- `records::text::append_text` meets its contract.
-use Rattle.decimal_text.proofs.PartLoops.{PartsAppended}
-use Rattle.csv_rows.specs.Csv.{csv}
-use Rattle.csv_rows.proofs.TextParts.{shards_left}
+use mathlib.Core.List.{◌++◌}
+use Rattle.decimal_text.specs.Appended.{Appended}
+use Rattle.csv_rows.specs.Format.{row_text}
+use Rattle.csv_rows.specs.Csv.{header}
+use Rattle.csv_rows.proofs.TextParts.{first_shards}
 use Rattle.records.proofs.text.append_text.Given as goal
 
 abbrev pub invariant-loop-shard : goal.invariant-loop-shard
-invariant-loop-shard l = PartsAppended l.shards (shards_left l.state l.shards) l.fn.text (csv l.state) l.text l.shard
+invariant-loop-shard l = Appended l.fn.text (row_text header ++ first_shards l.state l.shard) l.text
