@@ -1,84 +1,78 @@
--- A trace with its two outputs: with too short an output, and from what the call inside answers.
+-- A trace that is copied to an output: with too short an output, and from what the trace inside answers.
 -- Assumes nothing.
 use Prim.Native.Nat.{ℕ, ◌-◌, ◌≤◌, ◌<◌}
-use native.Mathlib.Omega.{arith}
-use mathlib.Core.Path.{◌≡◌, sym, ap, ◌∙◌}
+use mathlib.Core.Path.{◌≡◌, refl, ap, ◌∙◌}
+use mathlib.Core.Bool.{Bool, true, false, cond}
 use mathlib.Core.List.{List, [], ◌∷◌, ◌++◌}
-use lib.ListN.{length, take, drop, replicate, length-append}
-use lib.Seq.{sets, take-append_seam, length-take-le}
-use borrow.Author.Tests.{le-leb, lt-leb, ne_eqb}
-use Rattle.histories.specs.declared.trace.HostTrace.{HostTrace}
-use Rattle.stable_entries.specs.Listing.{after_listing_of}
-use Rattle.histories.specs.Traces.{trace_of, trace_rejection, padded, listed, traced}
-use Rattle.histories.proofs.TraceLaws.{trace_few}
+use lib.Dec.{leb, ltb, eqb}
+use lib.ListN.{length, drop}
+use lib.Seq.{sets}
+use borrow.Author.Tests.{le-leb, lt-leb}
+use Rattle.std.specs.Prelude.{Ok, Err}
+use Rattle.types.specs.declared.rejection.Rejection.{Rejection}
+use Rattle.types.specs.declared.rejection.Rejection.TheVariants.{OutputLength}
+use Rattle.types.specs.Rejections.{Written, numbered, answered, answer_number}
+use Rattle.types.proofs.Rejections.{answered_number}
+use Rattle.stable_entries.specs.Listing.{listing_of, after_listing_of}
+use Rattle.stable_entries.proofs.Listings.{rejects}
+use Rattle.histories.specs.Traces.{trace_of, trace_rejection, traced}
+use Rattle.histories.proofs.TraceAnswers.{no_trace}
+use Rattle.histories.proofs.NamedReplicas.{below as checks_below}
+use Rattle.word_outputs.specs.WordOutputs.{count_word}
 use Rattle.word_outputs.specs.TraceOutputs.{boxes_rejection, trace_answer, boxes_after, box_count_after}
 use Rattle.capi.proofs.Counts.{no_word, counted}
 
 -- what the call leaves: its answer, its boxes and their count
-abbrev pub Leaves : List ℕ → ℕ → ℕ → ℕ → List ℕ → List ℕ → ℕ → List ℕ → List ℕ → Type 0
+abbrev Leaves : List ℕ → ℕ → ℕ → ℕ → List ℕ → List ℕ → ℕ → List ℕ → List ℕ → Type 0
 Leaves w z i h out count r last after =
     (r ≡ trace_answer w z i h out count) × ((last ≡ boxes_after w z i h out count) × (after ≡ box_count_after w z i h out count))
 
--- the trace t that was answered, where it is no rejection
-module _ (w : List ℕ) (z i h : ℕ) {t : HostTrace} (e : t ≡ traced w z i h) (a : t.answer ≡ 0) where
-  accepted : trace_rejection w z i h ≡ 0
-  unfolding traced listed
-  accepted = sym (ap (λ (x : HostTrace). x.answer) e) ∙ a
+module _ (w : List ℕ) (z i h : ℕ) (out : List ℕ) where
+  abbrev boxes : List ℕ
+  boxes = trace_of w z (i - 1) h
 
-  is_listed : t ≡ listed 0 (trace_of w z (i - 1) h)
-  unfolding traced
-  is_listed = e ∙ rw accepted
+  -- what the copy answers, and leaves of the output
+  abbrev Copies : Written → List ℕ → Type 0
+  Copies r last = (r ≡ listing_of (boxes_rejection w z i h out) boxes) × (last ≡ after_listing_of (boxes_rejection w z i h out) boxes out)
 
-  count_is : t.count ≡ length (trace_of w z (i - 1) h)
-  unfolding listed
-  count_is = ap (λ (x : HostTrace). x.count) is_listed
+  pub no_room : length out < 7 → Copies (Err OutputLength) out
+  unfolding boxes_rejection
+  no_room l = rejects OutputLength boxes out (rw (lt-leb 7 (length out) l))
 
-  -- its boxes are the first of seven words
-  pub few : t.count ≤ 7
-  few = rw count_is (trace_few w z i h accepted)
+  module _ (room : 7 ≤ length out) where
+    pub refused : {r : Rejection} → Err r ≡ traced w z i h → Copies (Err r) out
+    unfolding boxes_rejection
+    refused {r} e = rejects r boxes out (rw (le-leb 7 (length out) room) (no_trace w z i h e))
 
-  pub within : t.count ≤ length t.hosts
-  unfolding listed padded
-  within = rw (count_is, ap (λ (x : HostTrace). x.hosts) is_listed, length-append) (omega arith)
+    pub copied : {l : List ℕ} → (trace_rejection w z i h ≡ 0) × (l ≡ boxes) → Copies (Ok (length l)) (l ++ drop (length l) out)
+    unfolding boxes_rejection listing_of after_listing_of answered
+    copied p = (rw (le-leb 7 (length out) room, p.0, p.1), rw (le-leb 7 (length out) room, p.0, p.1))
 
-  -- .. in both words that are copied
-  pub of_hosts : length (take t.count t.hosts) ≡ t.count
-  of_hosts = length-take-le t.count t.hosts within
+  one_below : (t : Bool) (m n : ℕ) → ltb m 25 ≡ true → ltb n 25 ≡ true → ltb (cond t m n) 25 ≡ true
+  one_below true m n a b = a
+  one_below false m n a b = b
 
-  pub of_output : (out : List ℕ) → 7 ≤ length out → length (take t.count out) ≡ t.count
-  of_output out r = length-take-le t.count out (omega (arith, few, r))
+  below : ltb (boxes_rejection w z i h out) 25 ≡ true
+  unfolding boxes_rejection trace_rejection
+  below = one_below (leb 7 (length out)) _ 8 (checks_below w z i h) refl
 
-  boxes : take t.count t.hosts ≡ trace_of w z (i - 1) h
-  unfolding listed padded
-  boxes =
-      rw (count_is, ap (λ (x : HostTrace). x.hosts) is_listed)
-      (take-append_seam (trace_of w z (i - 1) h) (replicate (7 - length (trace_of w z (i - 1) h)) 0))
+  -- the count of a copy that answered r, written to an output of its own
+  module _ (count : List ℕ) (one : 1 ≤ length count) {r : Written} {last : List ℕ} (c : Copies r last) where
+    count_written : sets count 0 (count_word r) ≡ cond (eqb (boxes_rejection w z i h out) 0) (sets count 0 (length boxes ∷ [])) count
+    unfolding listing_of answered
+    count_written = ap (λ (x : Written). sets count 0 (count_word x)) c.0 ∙ go (eqb (boxes_rejection w z i h out) 0)
+      where
+        go : (t : Bool) → sets count 0 (count_word (cond {A = Written} t (Ok (length boxes)) (Err (numbered (boxes_rejection w z i h out)))))
+            ≡ cond t (sets count 0 (length boxes ∷ [])) count
+        go true = refl
+        go false = refl
 
-module _ (w : List ℕ) (z i h : ℕ) (out count : List ℕ) where
-  pub no_count_lem : length count < 1 → Leaves w z i h out count 8 out count
-  unfolding trace_answer boxes_after box_count_after
-  no_count_lem l = no_word _ _ _ _ _ l
+    pub counts : {n : ℕ} {after : List ℕ} → n ≡ answer_number r → after ≡ sets count 0 (count_word r) → Leaves w z i h out count n last after
+    unfolding trace_answer boxes_after box_count_after listing_of
+    counts e a =
+        counted _ _ _ _ _ one (e ∙ ap (answer_number {A = ℕ}) c.0 ∙ answered_number (boxes_rejection w z i h out) (length boxes) below) c.1
+        (a ∙ count_written)
 
-  module _ (one : 1 ≤ length count) where
-    pub no_room : length out < 7 → Leaves w z i h out count 8 out count
-    unfolding trace_answer boxes_after box_count_after boxes_rejection after_listing_of
-    no_room l = counted _ _ _ _ _ one (rw (lt-leb 7 (length out) l)) (rw (lt-leb 7 (length out) l)) (rw (lt-leb 7 (length out) l))
-
-    module _ (room : 7 ≤ length out) {t : HostTrace} (e : t ≡ traced w z i h) where
-      answer_is : boxes_rejection w z i h out ≡ t.answer
-      unfolding boxes_rejection traced listed
-      answer_is = rw (le-leb 7 (length out) room) (sym (ap (λ (x : HostTrace). x.answer) e))
-
-      pub rejects : (t.answer ≡ 0 → ⊥) → Leaves w z i h out count t.answer out count
-      unfolding trace_answer boxes_after box_count_after after_listing_of
-      rejects n =
-          counted _ _ _ _ _ one (sym answer_is) (rw (answer_is, ne_eqb t.answer 0 n)) (rw (answer_is, ne_eqb t.answer 0 n))
-
-      pub done : t.answer ≡ 0 → {l after : List ℕ} → l ≡ take t.count t.hosts → after ≡ sets count 0 (t.count ∷ [])
-          → Leaves w z i h out count 0 (l ++ drop t.count out) after
-      unfolding trace_answer boxes_after box_count_after after_listing_of
-      done a p c =
-          let is = boxes w z i h e a in
-          let many = count_is w z i h e a in
-          let none : boxes_rejection w z i h out ≡ 0 = answer_is ∙ a in
-          counted _ _ _ _ _ one (sym none) (rw none (rw (p ∙ is, many))) (rw none (c ∙ rw many))
+pub no_count : (w : List ℕ) (z i h : ℕ) (out count : List ℕ) → length count < 1 → Leaves w z i h out count 8 out count
+unfolding trace_answer boxes_after box_count_after
+no_count w z i h out count l = no_word _ _ _ _ _ l

@@ -1,11 +1,14 @@
 // Where a seat got its list: the boxes from which it and its sources began.
-ghost use Rattle.std.specs.Prelude.{◌≡◌};
-ghost use Rattle.word_outputs.specs.TraceOutputs.{trace_answer, boxes_after, box_count_after};
+ghost use Rattle.std.specs.Prelude.{◌≡◌, ◌-◌};
+ghost use Rattle.histories.specs.Traces.{trace_of};
+ghost use Rattle.stable_entries.specs.Listing.{listing_of, after_listing_of};
+ghost use Rattle.word_outputs.specs.TraceOutputs.{boxes_rejection, trace_answer, boxes_after, box_count_after};
 
-use histories::trace::MOST_HOSTS;
+use histories::trace::{MOST_HOSTS, trace};
+use types::rejection::Rejection;
+use word_outputs::words::put_count;
 
 // Copies the boxes of a seat's trace to an output, nearest first: 0 and their count, or the rejection and nothing written.
-#[tactic(auto, using(crate::proofs::TraceOutputs::few, crate::proofs::TraceOutputs::within, crate::proofs::TraceOutputs::of_hosts, crate::proofs::TraceOutputs::of_output))]
 #[unsafe(no_mangle)]
 pub extern "C" fn penkwadar_trace(
     state: &[u64],
@@ -22,17 +25,24 @@ pub extern "C" fn penkwadar_trace(
     if count.len() < 1 {
         return 8;
     }
+    put_count(count, copy_boxes(state, zone, index, host, out))
+}
+
+// The same without a count: how many boxes were copied, or the rejection and the output untouched.
+fn copy_boxes(
+    state: &[u64],
+    zone: u64,
+    index: u64,
+    host: u64,
+    out: &mut [u64],
+) -> Result<usize, Rejection>
+    ensures value { result ≡ listing_of (boxes_rejection state.now zone index host out.old) (trace_of state.now zone (index - 1) host) }
+    ensures out_after { out.new ≡ after_listing_of (boxes_rejection state.now zone index host out.old) (trace_of state.now zone (index - 1) host) out.old }
+{
     if out.len() < MOST_HOSTS {
-        return 8;
+        return Err(Rejection::OutputLength);
     }
-    let trace = histories::trace::trace(state, zone, index, host);
-    let boxes = trace.count;
-    if trace.answer != 0 {
-        return trace.answer;
-    }
-    let hosts = trace.hosts;
-    let end = boxes as usize;
-    out[..end].copy_from_slice(&hosts[..end]);
-    count[0] = boxes;
-    0
+    let boxes = trace(state, zone, index, host)?;
+    out[..boxes.len()].copy_from_slice(&boxes);
+    Ok(boxes.len())
 }

@@ -4,15 +4,14 @@ use native.Mathlib.Omega.{arith}
 use mathlib.Core.Path.{◌≡◌, refl, sym, ap, ◌∙◌}
 use mathlib.Core.Bool.{Bool, true, false, cond}
 use mathlib.Core.List.{List, [], ◌∷◌}
-use lib.Dec.{leb, ltb, eqb}
+use lib.Dec.{leb, ltb}
 use lib.ListN.{length}
-use borrow.Author.Tests.{leb-true, ltb-true, eqb-true, le-leb}
-use Rattle.std.specs.Prelude.{Result, Ok, Err}
+use borrow.Author.Tests.{leb-true, ltb-true, le-leb}
+use Rattle.std.specs.Prelude.{Ok, Err}
 use Rattle.types.specs.declared.rejection.Rejection.{Rejection}
 use Rattle.types.specs.declared.rejection.Rejection.TheVariants.{StateLength, OutOfRange, NotWellFormed, NotInstalled, NotMember}
-use Rattle.types.specs.Rejections.{rejection_number, numbered, answered, answer_number}
-use Rattle.types.proofs.OkErr.{ok_is, ok_err}
-use Rattle.types.proofs.Rejections.{answered_number, rejected_answer}
+use Rattle.types.specs.Rejections.{rejection_number, numbered, answered}
+use Rattle.types.proofs.Rejections.{rejected_answer}
 use Rattle.model.specs.Checks.{first_of}
 use Rattle.types.specs.Members.{is_host, has_member}
 use Rattle.model.specs.Layout.{shards_of, is_state_length, is_installed, members}
@@ -27,6 +26,8 @@ use Rattle.lookup.specs.FoundReplicas.{found_of}
 use Rattle.step_numbers.specs.StepRanges.{is_index_of}
 use Rattle.lookup.proofs.Formed.{formed_of}
 use Rattle.histories.proofs.Answered.{answered_ok, answered_err}
+use Rattle.wellformed.specs.Checked.{shard_count_of}
+use Rattle.wellformed.proofs.Checked.{count_passed, count_rejected}
 use Rattle.histories.specs.NamedReplicas.{is_replica_name, replica_checks, found_named}
 
 -- a shard, an index and a host that are in range
@@ -66,35 +67,45 @@ module _ (w : List ℕ) (z i h : ℕ) where
   unfolding found_named
   rejected_as r e = rw e (rejected_answer r place)
 
-  pub no_length : Z ≡ 0 → Err StateLength ≡ found_named w z i h
+  -- what a caller named, in a state of a known length and form
+  ready_as : 2 ≤ Z → is_replica_name Z z i h ≡ true → well_formed w ≡ true → ReadyHost w z (i - 1) h
+  ready_as two e f =
+      let a = named Z z i h e in
+      record {
+        ready = record { state = formed_of w (λ q. omega arith) f; shard = a.shard; configuration = omega (arith, a.most) };
+        host = a.host;
+      }
+
+  pub no_length : {r : Rejection} → Err r ≡ shard_count_of (length w) → Err r ≡ found_named w z i h
   unfolding replica_checks first_of is_state_length
-  no_length e = rejected_as StateLength (rw e)
+  no_length e = let c = count_rejected _ e in rw c.0 (rejected_as StateLength (rw c.1))
 
-  module _ (two : 2 ≤ Z) where
-    pub no_name : is_replica_name Z z i h ≡ false → Err OutOfRange ≡ found_named w z i h
+  -- n shards were counted
+  module _ {n : ℕ} (count : Ok n ≡ shard_count_of (length w)) where
+    two : 2 ≤ Z
+    two = (count_passed _ count).1
+
+    name_is : {t : Bool} → is_replica_name n z i h ≡ t → is_replica_name Z z i h ≡ t
+    name_is e = ap (λ (m : ℕ). is_replica_name m z i h) (sym (count_passed _ count).0) ∙ e
+
+    pub no_name : is_replica_name n z i h ≡ false → Err OutOfRange ≡ found_named w z i h
     unfolding replica_checks first_of is_state_length
-    no_name e = rejected_as OutOfRange (rw (le-leb 2 Z two, e))
+    no_name e = rejected_as OutOfRange (rw (le-leb 2 Z two, name_is e))
 
-    module _ (e : is_replica_name Z z i h ≡ true) where
+    module _ (e : is_replica_name n z i h ≡ true) where
       pub no_form : well_formed w ≡ false → Err NotWellFormed ≡ found_named w z i h
       unfolding replica_checks first_of is_state_length
-      no_form f = rejected_as NotWellFormed (rw (le-leb 2 Z two, e, f))
+      no_form f = rejected_as NotWellFormed (rw (le-leb 2 Z two, name_is e, f))
 
       module _ (f : well_formed w ≡ true) where
         pub ready_host : ReadyHost w z (i - 1) h
-        ready_host =
-            let a = named Z z i h e in
-            record {
-              ready = record { state = formed_of w (λ q. omega arith) f; shard = a.shard; configuration = omega (arith, a.most) };
-              host = a.host;
-            }
+        ready_host = ready_as two (name_is e) f
 
         -- the checks that are left are those of the look-up
         pub found_as : found_of w z (i - 1) h ≡ found_named w z i h
         unfolding found_named found_of replica_checks first_of is_state_length
         found_as =
-            rw (le-leb 2 Z two, e, f)
-            (chosen (is_installed w z (i - 1)) (has_member (members w z (i - 1)) h) place)
+            rw (le-leb 2 Z two, name_is e, f) (chosen (is_installed w z (i - 1)) (has_member (members w z (i - 1)) h) place)
 
   pub below : ltb (first_of (replica_checks w z i h)) 25 ≡ true
   unfolding replica_checks
@@ -121,7 +132,7 @@ is_named w z i h e =
     let p = passed (replica_checks w z i h) refl e in
     record {
       in_range = named (shards_of (length w)) z i h p.1.0;
-      ready = (ready_host w z i h (leb-true 2 (shards_of (length w)) p.0) p.1.0 p.1.1.0).ready;
+      ready = (ready_as w z i h (leb-true 2 (shards_of (length w)) p.0) p.1.0 p.1.1.0).ready;
       there = p.1.1.1.0;
       member = p.1.1.1.1.0;
     }

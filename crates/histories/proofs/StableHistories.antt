@@ -1,5 +1,5 @@
 -- The ladder of a shard's stable history: what is answered and left, by the tests that are made in turn.
-use Rattle.std.specs.Prelude.{Err}
+use Rattle.std.specs.Prelude.{Ok, Err}
 use Rattle.types.specs.declared.rejection.Rejection.{Rejection}
 use Rattle.types.specs.declared.rejection.Rejection.TheVariants.{StateLength, OutOfRange, NotWellFormed}
 use Rattle.types.specs.Rejections.{Written, rejection_number, answer_count, answer_number}
@@ -20,13 +20,17 @@ use Rattle.model.specs.StableHistory.{stable_history}
 use Rattle.stable_entries.specs.Listing.{has_room}
 use Rattle.stable_entries.specs.StableEntries.{copying_rejection, copying, after_copying}
 use Rattle.stable_entries.specs.Pick.{longest_place, OfShard}
+use Rattle.wellformed.specs.Checked.{shard_count_of}
+use Rattle.wellformed.proofs.Checked.{count_passed, count_rejected}
 use Rattle.histories.specs.History.{listing_rejection, listed_count, listing, after_listing}
 use Rattle.stable_entries.proofs.Longest.{picked_entries}
 use Rattle.stable_entries.proofs.Listings.{rejects, told}
 
--- a shard of a state that passed the tests
-pub of_shard : (w : List ℕ) (z : ℕ) → 2 ≤ shards_of (length w) → z < shards_of (length w) → well_formed w ≡ true → OfShard w z
-of_shard w z two h f = record { formed = formed_of w (λ q. omega arith) f; shard = h }
+-- a shard of a state that passed the tests, n shards being counted
+pub of_shard : (w : List ℕ) (z : ℕ) {n : ℕ} → Ok n ≡ shard_count_of (length w) → z < n → well_formed w ≡ true → OfShard w z
+of_shard w z count h f =
+    let c = count_passed _ count in
+    record { formed = formed_of w (λ q. omega (arith, c.1)) f; shard = omega (arith, c.0) }
 
 module _ (w : List ℕ) (z : ℕ) (out : List ℕ) where
   -- what is answered and left, in numbers and as a value
@@ -58,18 +62,22 @@ module _ (w : List ℕ) (z : ℕ) (out : List ℕ) where
   unfolding listing after_listing
   rejects_as r e = let p = rejects r (stable_history w z) out e in answers p.0 p.1
 
-  pub rejects_length : shards_of (length w) ≡ 0 → Rejects StateLength
+  pub rejects_length : {r : Rejection} → Err r ≡ shard_count_of (length w) → Rejects r
   unfolding listing_rejection first_of is_state_length
-  rejects_length e = rejects_as StateLength (simp e)
+  rejects_length e = let c = count_rejected _ e in rw c.0 (rejects_as StateLength (simp c.1))
 
-  module _ (two : 2 ≤ shards_of (length w)) where
-    pub rejects_shard : shards_of (length w) ≤ z → Rejects OutOfRange
+  module _ {n : ℕ} (count : Ok n ≡ shard_count_of (length w)) where
+    pub rejects_shard : n ≤ z → Rejects OutOfRange
     unfolding listing_rejection first_of is_state_length
-    rejects_shard h = rejects_as OutOfRange (simp (le-leb 2 (shards_of (length w)) two, le-ltb z (shards_of (length w)) h))
+    rejects_shard h =
+        let c = count_passed _ count in
+        rejects_as OutOfRange (simp (le-leb 2 (shards_of (length w)) c.1, le-ltb z (shards_of (length w)) (omega (arith, c.0))))
 
-    pub rejects_form : z < shards_of (length w) → well_formed w ≡ false → Rejects NotWellFormed
+    pub rejects_form : z < n → well_formed w ≡ false → Rejects NotWellFormed
     unfolding listing_rejection first_of is_state_length
-    rejects_form h f = rejects_as NotWellFormed (simp (le-leb 2 (shards_of (length w)) two, lt-ltb z (shards_of (length w)) h, f))
+    rejects_form h f =
+        let c = count_passed _ count in
+        rejects_as NotWellFormed (simp (le-leb 2 (shards_of (length w)) c.1, lt-ltb z (shards_of (length w)) (omega (arith, c.0)), f))
 
   -- the tests passed leave that of the room, for the entries of the replica that the pick finds
   module _ (s : OfShard w z) {p : ℕ} (e : p ≡ longest_place w z 31) where

@@ -5,6 +5,9 @@ ghost use Rattle.histories.specs.NamedReplicas.{is_replica_name, found_named};
 use lookup::name::Named;
 use types::rejection::Rejection;
 
+// There are so many hosts.
+const HOSTS: u64 = 16;
+
 // The place of a host's replica, in a state of which nothing is known, or the rejection (1, 7, 9, 10 or 11).
 pub fn find_named(state: &[u64], shard: u64, index: u64, host: u64) -> Result<usize, Rejection>
     ensures { result ≡ found_named state.now shard index host }
@@ -28,5 +31,5 @@ pub fn find_named(state: &[u64], shard: u64, index: u64, host: u64) -> Result<us
 fn is_replica_name(shards: usize, shard: u64, index: u64, host: u64) -> bool
     ensures { result ≡ is_replica_name shards shard index host }
 {
-    step_numbers::is_index_of(shards, shard, index) && host < 16
+    step_numbers::is_index_of(shards, shard, index) && host < HOSTS
 }

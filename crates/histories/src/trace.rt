@@ -24,18 +24,22 @@ pub fn trace(
     if state[place] == PENDING {
         return Ok(ArrayVec::new());
     }
-    Ok(sources(state, shard as usize, (index - 1) as usize, host))
+    let at = Named {
+        z: shard as usize,
+        j: (index - 1) as usize,
+    };
+    Ok(sources(state, at, host))
 }
 
 // The sources of a replica that is not pending, host by host.
-fn sources(state: &[u64], z: usize, j: usize, host: u64) -> ArrayVec<u64, MOST_HOSTS>
-    requires { Started state.now z j host }
-    ensures { result.items ≡ sources_of state.now z j host }
+fn sources(state: &[u64], at: Named, host: u64) -> ArrayVec<u64, MOST_HOSTS>
+    requires { Started state.now at.z at.j host }
+    ensures { result.items ≡ sources_of state.now at.z at.j host }
 {
     let mut hosts = ArrayVec::new();
     let mut g = host;
-    for i in (1..=j).rev() {
-        let place = lookup::configuration_of(state, Named { z, j: i }).replica(g);
+    for j in (1..=at.j).rev() {
+        let place = lookup::configuration_of(state, Named { j, ..at }).replica(g);
         g = state[place + ORIGIN] - 1;
         hosts.push(g);
     }

@@ -2,5 +2,5 @@
 use Rattle.histories.proofs.Traces.{Walked}
 use Rattle.histories.proofs.trace.sources.Given as goal
 
-abbrev pub invariant-loop-i : goal.invariant-loop-i
-invariant-loop-i l = Walked l.state l.z l.j l.host l.i l.g l.hosts.items
+abbrev pub invariant-loop-j : goal.invariant-loop-j
+invariant-loop-j l = Walked l.state l.at.z l.at.j l.host l.j l.g l.hosts.items

@@ -20,8 +20,8 @@ pub returns-then-state-place-eq-PENDING : goal.returns-then-state-place-eq-PENDI
 returns-then-state-place-eq-PENDING c =
     waits _ _ _ _ (sym c.in_ok-place.was ∙ c.find_named.ensures) c.if-state-place-eq-PENDING.true c.new.ensures
 
-pub overflow_sub-index : goal.overflow_sub-index
-overflow_sub-index c = least _ _ _ _ (sym c.in_ok-place.was ∙ c.find_named.ensures)
+pub overflow_sub-at : goal.overflow_sub-at
+overflow_sub-at c = least _ _ _ _ (sym c.in_ok-place.was ∙ c.find_named.ensures)
 
 pub sources-requires : goal.sources-requires
 sources-requires c = starts _ _ _ _ (sym c.in_ok-place.was ∙ c.find_named.ensures) c.if-state-place-eq-PENDING.false
