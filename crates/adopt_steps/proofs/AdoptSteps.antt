@@ -3,7 +3,7 @@
 use Rattle.std.specs.Prelude.{Ok}
 use Prim.Native.Nat.{ℕ, ◌+◌, min, max}
 use mathlib.Core.Path.{◌≡◌, refl, sym, ap, ◌∙◌}
-use mathlib.Core.Bool.{Bool, false, cond, not}
+use mathlib.Core.Bool.{cond, not}
 use mathlib.Core.List.{List}
 use lib.Dec.{eqb}
 use lib.ListN.{get_or}
@@ -17,7 +17,7 @@ use Rattle.model.specs.Checks.{first_of}
 use Rattle.model.specs.Replicas.{adopted}
 use Rattle.model.specs.Layout.{orderer, replica_at, put_replica}
 use Rattle.model.specs.Configuration.{configuration}
-use Rattle.model.specs.Steps.{are_numbers, kind_checks, kind_effect}
+use Rattle.model.specs.Steps.{kind_checks, kind_effect}
 use Rattle.model.specs.Add.{orderer_place, orderer_replica}
 use Rattle.model.specs.Adopt.{adopt_checks, adopt_effect}
 use Rattle.lookup.specs.Ready.{Ready, ReadyInstalled, Placed, HoldsReplica}

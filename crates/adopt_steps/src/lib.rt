@@ -37,7 +37,9 @@ pub fn adopt(
     if state[o] == PENDING {
         return Err(Rejection::NoSource);
     }
-    let stable = state[p + STABLE].max(state[o + STABLE]).min(state[o + LENGTH]);
+    let stable = state[p + STABLE]
+        .max(state[o + STABLE])
+        .min(state[o + LENGTH]);
     let origin = state[p + ORIGIN];
     copy_replica(state, p, o, ACTIVE, stable, origin);
     Ok(())

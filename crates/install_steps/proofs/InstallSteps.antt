@@ -52,123 +52,123 @@ module _ {w : List ℕ} {z j : ℕ} (y : Ready w z j) (h q : ℕ) (e : are_numbe
 
   -- r is the place of the replica that was found
   module _ {r : ℕ} (s : Ok r ≡ found_of w (sequencer w z) j h) where
-      at : At w (sequencer w z) j h r
-      at = at_found w (sequencer w z) j h s r refl
+    at : At w (sequencer w z) j h r
+    at = at_found w (sequencer w z) j h s r refl
 
-      pub not_stable : get_or w (r + 2) 0 ≤ q → (20 ≡ kind_answer (Ok Install) w z j h q) × (w ≡ kind_after (Ok Install) w z j h q)
-      unfolding kind_checks install_checks is_stable_issue first_of
-      not_stable l =
-          rejects (Ok Install) w z j h q e NoIssue (simp (at.there, at.member, stable_is named at, le-ltb q (get_or w (r + 2) 0) l))
+    pub not_stable : get_or w (r + 2) 0 ≤ q → (20 ≡ kind_answer (Ok Install) w z j h q) × (w ≡ kind_after (Ok Install) w z j h q)
+    unfolding kind_checks install_checks is_stable_issue first_of
+    not_stable l =
+        rejects (Ok Install) w z j h q e NoIssue (simp (at.there, at.member, stable_is named at, le-ltb q (get_or w (r + 2) 0) l))
 
-      -- the entry at the place, which is stable
-      module _ (l : q < get_or w (r + 2) 0) where
-        entry : ℕ
-        entry = get_or w (r + 8 + q) 0
+    -- the entry at the place, which is stable
+    module _ (l : q < get_or w (r + 2) 0) where
+      entry : ℕ
+      entry = get_or w (r + 8 + q) 0
 
-        entry_is : issued_at w z j h q ≡ entry
-        unfolding entry
-        entry_is = issued_is named at q l
+      entry_is : issued_at w z j h q ≡ entry
+      unfolding entry
+      entry_is = issued_is named at q l
 
-        -- the third check, as the code makes it
-        third : is_stable_issue w z j h q ≡ is_issue_for z entry
-        unfolding is_stable_issue
-        third = rw (stable_is named at, lt-ltb q (get_or w (r + 2) 0) l, entry_is)
+      -- the third check, as the code makes it
+      third : is_stable_issue w z j h q ≡ is_issue_for z entry
+      unfolding is_stable_issue
+      third = rw (stable_is named at, lt-ltb q (get_or w (r + 2) 0) l, entry_is)
 
-        module _ {t : Bool} (k : t ≡ is_issue_for z (get_or w (r + 8 + q) 0)) where
-          pub no_issue : t ≡ false → (20 ≡ kind_answer (Ok Install) w z j h q) × (w ≡ kind_after (Ok Install) w z j h q)
-          unfolding kind_checks install_checks first_of entry
-          no_issue m =
-              rejects (Ok Install) w z j h q e NoIssue (simp (at.there, at.member, third, sym k ∙ m))
+      module _ {t : Bool} (k : t ≡ is_issue_for z (get_or w (r + 8 + q) 0)) where
+        pub no_issue : t ≡ false → (20 ≡ kind_answer (Ok Install) w z j h q) × (w ≡ kind_after (Ok Install) w z j h q)
+        unfolding kind_checks install_checks first_of entry
+        no_issue m =
+            rejects (Ok Install) w z j h q e NoIssue (simp (at.there, at.member, third, sym k ∙ m))
 
-          issue_for : t ≡ true → (is_issue (get_or w (r + 8 + q) 0) ≡ true) × (eqb (issue_shard (get_or w (r + 8 + q) 0)) z ≡ true)
-          unfolding is_issue_for
-          issue_for g =
-              let issues : is_issue_for z (get_or w (r + 8 + q) 0) ≡ true = sym k ∙ g in
-              search (and_left, and_right)
+        issue_for : t ≡ true → (is_issue (get_or w (r + 8 + q) 0) ≡ true) × (eqb (issue_shard (get_or w (r + 8 + q) 0)) z ≡ true)
+        unfolding is_issue_for
+        issue_for g =
+            let issues : is_issue_for z (get_or w (r + 8 + q) 0) ≡ true = sym k ∙ g in
+            search (and_left, and_right)
 
-          pub is_issue_lem : t ≡ true → is_issue (get_or w (r + 8 + q) 0) ≡ true
-          is_issue_lem g = (issue_for g).0
+        pub is_issue_lem : t ≡ true → is_issue (get_or w (r + 8 + q) 0) ≡ true
+        is_issue_lem g = (issue_for g).0
 
-          module _ (g : t ≡ true) {x : ℕ} (index : x ≡ issue_index (get_or w (r + 8 + q) 0)) where
-            issued : is_stable_issue w z j h q ≡ true
-            unfolding entry
-            issued = third ∙ sym k ∙ g
+        module _ (g : t ≡ true) {x : ℕ} (index : x ≡ issue_index (get_or w (r + 8 + q) 0)) where
+          issued : is_stable_issue w z j h q ≡ true
+          unfolding entry
+          issued = third ∙ sym k ∙ g
 
-            -- the fourth check, as the code makes it
-            index_is : issue_index (issued_at w z j h q) ≡ x
-            unfolding entry
-            index_is = ap issue_index entry_is ∙ sym index
+          -- the fourth check, as the code makes it
+          index_is : issue_index (issued_at w z j h q) ≡ x
+          unfolding entry
+          index_is = ap issue_index entry_is ∙ sym index
 
-            pub not_next : (x ≡ get_or w (z * 2112 + 1) 0 + 1 → ⊥) → (21 ≡ kind_answer (Ok Install) w z j h q) × (w ≡ kind_after (Ok Install) w z j h q)
-            unfolding kind_checks install_checks first_of
-            not_next m =
-                rejects (Ok Install) w z j h q e WrongIndex (simp (at.there, at.member, issued, index_is, installed_word, ne_eqb _ _ m))
+          pub not_next : (x ≡ get_or w (z * 2112 + 1) 0 + 1 → ⊥) → (21 ≡ kind_answer (Ok Install) w z j h q) × (w ≡ kind_after (Ok Install) w z j h q)
+          unfolding kind_checks install_checks first_of
+          not_next m =
+              rejects (Ok Install) w z j h q e WrongIndex (simp (at.there, at.member, issued, index_is, installed_word, ne_eqb _ _ m))
 
-            -- d is whether the newest configuration is wedged
-            pub not_wedged : x ≡ get_or w (z * 2112 + 1) 0 + 1 → {d : Bool} → d ≡ is_newest_wedged w z → d ≡ false
-                → (24 ≡ kind_answer (Ok Install) w z j h q) × (w ≡ kind_after (Ok Install) w z j h q)
-            unfolding kind_checks install_checks first_of
-            not_wedged f {d} tested m =
-                rejects (Ok Install) w z j h q e NotWedged
-                (simp (at.there, at.member, issued, index_is, installed_word, eq-eqb _ _ f, sym tested ∙ m))
+          -- d is whether the newest configuration is wedged
+          pub not_wedged : x ≡ get_or w (z * 2112 + 1) 0 + 1 → {d : Bool} → d ≡ is_newest_wedged w z → d ≡ false
+              → (24 ≡ kind_answer (Ok Install) w z j h q) × (w ≡ kind_after (Ok Install) w z j h q)
+          unfolding kind_checks install_checks first_of
+          not_wedged f {d} tested m =
+              rejects (Ok Install) w z j h q e NotWedged
+              (simp (at.there, at.member, issued, index_is, installed_word, eq-eqb _ _ f, sym tested ∙ m))
 
-            module _ (f : x ≡ get_or w (z * 2112 + 1) 0 + 1) {d : Bool} (tested : d ≡ is_newest_wedged w z) (wedged : d ≡ true)
-                (fits : Placed w r) {u : Bool}
-                (v : u ≡ issued_in (issue_shard (get_or w (r + 8 + q) 0)) (issue_index (get_or w (r + 8 + q) 0))
-                (take (r + 8 + q - (r + 8)) (drop (r + 8) w))) where
-              -- the last check, as the code makes it
-              sixth : none_before z x q (issuer w z j h).history ≡ not u
-              sixth =
-                  let shard : issue_shard (get_or w (r + 8 + q) 0) ≡ z = eqb-true _ _ (issue_for g).1 in
-                  rw (v, ← index, shard) (none_is named at x q l fits.fits few)
+          module _ (f : x ≡ get_or w (z * 2112 + 1) 0 + 1) {d : Bool} (tested : d ≡ is_newest_wedged w z) (wedged : d ≡ true)
+              (fits : Placed w r) {u : Bool}
+              (v : u ≡ issued_in (issue_shard (get_or w (r + 8 + q) 0)) (issue_index (get_or w (r + 8 + q) 0))
+              (take (r + 8 + q - (r + 8)) (drop (r + 8) w))) where
+            -- the last check, as the code makes it
+            sixth : none_before z x q (issuer w z j h).history ≡ not u
+            sixth =
+                let shard : issue_shard (get_or w (r + 8 + q) 0) ≡ z = eqb-true _ _ (issue_for g).1 in
+                rw (v, ← index, shard) (none_is named at x q l fits.fits few)
 
-              last : cond (not u) 0 22 ≡ first_of (install_checks w z j h q)
-              unfolding install_checks first_of
-              last =
-                  simp (
-                    at.there,
-                    at.member,
-                    issued,
-                    index_is,
-                    installed_word,
-                    eq-eqb _ _ f,
-                    sym tested ∙ wedged,
-                    sixth,
-                  )
+            last : cond (not u) 0 22 ≡ first_of (install_checks w z j h q)
+            unfolding install_checks first_of
+            last =
+                simp (
+                  at.there,
+                  at.member,
+                  issued,
+                  index_is,
+                  installed_word,
+                  eq-eqb _ _ f,
+                  sym tested ∙ wedged,
+                  sixth,
+                )
 
-              pub earlier : u ≡ true → (22 ≡ kind_answer (Ok Install) w z j h q) × (w ≡ kind_after (Ok Install) w z j h q)
-              unfolding kind_checks
-              earlier m = rejects (Ok Install) w z j h q e IssuedBefore (rw m at last)
+            pub earlier : u ≡ true → (22 ≡ kind_answer (Ok Install) w z j h q) × (w ≡ kind_after (Ok Install) w z j h q)
+            unfolding kind_checks
+            earlier m = rejects (Ok Install) w z j h q e IssuedBefore (rw m at last)
 
-              module _ (i : u ≡ false) where
-                first : 0 ≡ first_of (install_checks w z j h q)
-                first = rw i at last
+            module _ (i : u ≡ false) where
+              first : 0 ≡ first_of (install_checks w z j h q)
+              first = rw i at last
 
-                passes : AllPass (install_checks w z j h q)
-                unfolding install_checks
-                passes = passed (install_checks w z j h q) refl (sym first)
+              passes : AllPass (install_checks w z j h q)
+              unfolding install_checks
+              passes = passed (install_checks w z j h q) refl (sym first)
 
-                module _ {m o : ℕ} (em : m ≡ issue_members (get_or w (r + 8 + q) 0)) (eo : o ≡ issue_orderer (get_or w (r + 8 + q) 0)) where
-                  members_are : issue_members (issued_at w z j h q) ≡ m
-                  unfolding entry
-                  members_are = ap issue_members entry_is ∙ sym em
+              module _ {m o : ℕ} (em : m ≡ issue_members (get_or w (r + 8 + q) 0)) (eo : o ≡ issue_orderer (get_or w (r + 8 + q) 0)) where
+                members_are : issue_members (issued_at w z j h q) ≡ m
+                unfolding entry
+                members_are = ap issue_members entry_is ∙ sym em
 
-                  orderer_is : issue_orderer (issued_at w z j h q) ≡ o
-                  unfolding entry
-                  orderer_is = ap issue_orderer entry_is ∙ sym eo
+                orderer_is : issue_orderer (issued_at w z j h q) ≡ o
+                unfolding entry
+                orderer_is = ap issue_orderer entry_is ∙ sym eo
 
-                  pub next_ready : ReadyNext w z m o
-                  next_ready =
-                      let proper = issue_proper (formed y.state) y.shard y.configuration h q passes in
-                      let next = next_index (formed y.state) y.shard y.configuration h q passes in
-                      rw (← members_are, ← orderer_is)
-                      (record {
-                        state = y.state;
-                        shard = y.shard;
-                        next = omega (arith, next, proper.index_most, installed_word w z);
-                        configured = proper.configuration;
-                      })
+                pub next_ready : ReadyNext w z m o
+                next_ready =
+                    let proper = issue_proper (formed y.state) y.shard y.configuration h q passes in
+                    let next = next_index (formed y.state) y.shard y.configuration h q passes in
+                    rw (← members_are, ← orderer_is)
+                    (record {
+                      state = y.state;
+                      shard = y.shard;
+                      next = omega (arith, next, proper.index_most, installed_word w z);
+                      configured = proper.configuration;
+                    })
 
-                  pub done : {v : List ℕ} → v ≡ install_next w z m o → (0 ≡ kind_answer (Ok Install) w z j h q) × (v ≡ kind_after (Ok Install) w z j h q)
-                  unfolding kind_checks kind_effect install_effect
-                  done s = accepts (Ok Install) w z j h q e first (s ∙ sym (ap₂ (install_next w z) members_are orderer_is))
+                pub done : {v : List ℕ} → v ≡ install_next w z m o → (0 ≡ kind_answer (Ok Install) w z j h q) × (v ≡ kind_after (Ok Install) w z j h q)
+                unfolding kind_checks kind_effect install_effect
+                done s = accepts (Ok Install) w z j h q e first (s ∙ sym (ap₂ (install_next w z) members_are orderer_is))

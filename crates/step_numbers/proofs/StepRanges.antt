@@ -5,7 +5,7 @@ use native.Mathlib.Omega.{arith}
 use mathlib.Core.Path.{◌≡◌, refl, sym, ap, ◌∙◌}
 use mathlib.Core.Bool.{Bool, true, false, cond, not, and-true, and-false}
 use lib.Dec.{ltb}
-use borrow.Author.Tests.{le-leb, lt-leb, not-true, not-false}
+use borrow.Author.Tests.{le-leb, lt-leb}
 use Rattle.std.specs.Prelude.{Ok, Err}
 use Rattle.types.specs.declared.kind.Kind.{Kind}
 use Rattle.types.specs.declared.kind.NoKind.{NoKind}
@@ -15,7 +15,7 @@ use Rattle.types.specs.declared.step.Step.{Step}
 use Rattle.types.specs.Rejections.{rejection_number, no_kind_rejection}
 use Rattle.model.specs.Checks.{first_of}
 use Rattle.types.specs.Kinds.{kind_of, is_kept, is_unknown, names_host}
-use Rattle.types.specs.Rules.{Known, most_fourth, rules_of}
+use Rattle.types.specs.Rules.{most_fourth, rules_of}
 use Rattle.types.specs.Members.{is_host}
 use Rattle.model.specs.Entries.{is_entry}
 use Rattle.types.specs.StepNames.{shard_of}

@@ -1,5 +1,4 @@
 -- `install_steps::issuer` meets its contract.
-use native.Mathlib.Omega.{arith}
 use Rattle.model.proofs.Heads.{sequencer_word}
 use Rattle.install_steps.proofs.InstallReads.{sequencer_ready}
 use Rattle.install_steps.proofs.issuer.Goals as goal

@@ -1,5 +1,5 @@
 -- `machine::act` meets its contract.
-use mathlib.Core.Path.{refl, sym, ap, ◌∙◌}
+use mathlib.Core.Path.{ap}
 use Rattle.types.specs.declared.configuration.Configuration.{Configuration}
 use Rattle.model.specs.Configuration.{configuration}
 use Rattle.machine.proofs.ByKind.{least, ready, by_kind}

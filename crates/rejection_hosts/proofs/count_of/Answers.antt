@@ -1,5 +1,4 @@
 -- `rejection_hosts::count_of` meets its contract.
-use Prim.Native.Nat.{◌≤◌, ◌<◌}
 use native.Mathlib.Omega.{arith}
 use mathlib.Core.Path.{◌∙◌}
 use Rattle.rejection_hosts.proofs.Named.{own_count, no_count_lem}

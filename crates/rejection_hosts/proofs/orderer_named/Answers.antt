@@ -1,8 +1,7 @@
 -- `rejection_hosts::orderer_named` meets its contract.
-use mathlib.Core.Path.{◌≡◌, sym, ap, ◌∙◌}
+use mathlib.Core.Path.{sym, ap, ◌∙◌}
 use mathlib.Core.Bool.{true≢false}
 use Rattle.types.specs.declared.configuration.Configuration.{Configuration}
-use Rattle.types.specs.declared.rejection.Rejection.TheVariants.{OutOfRange, NotInstalled}
 use Rattle.rejection_hosts.proofs.Named.{index_least, names-configuration, no_orderer, has_orderer}
 use Rattle.rejection_hosts.proofs.orderer_named.Goals as goal
 use Rattle.rejection_hosts.proofs.orderer_named.Goals.{in-OutOfRange, in_default}
