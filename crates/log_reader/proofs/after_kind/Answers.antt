@@ -21,17 +21,17 @@ returns-in_err-a c =
     let p = err_from_is_err_and c.from_residual-in_err-a.result c.from_residual-in_err-a.ensures.1 in
     let n : ℕ = c.args.number in
     let l = c.args.log.now in
-    let k : Ok c.in_ok-kind.kind ≡ kind_of n = sym c.in_ok-kind.was ∙ c.try_from.ensures.kind in
-    rw (p.1, p.2) (kind_taken l _ n (ok_known _ _ k) (step_rejected n [] l _ c.read_number.ensures _ c.in_err-a.was))
+    let k = ok_known _ _ (sym c.in_ok-kind.was ∙ c.try_from.ensures.kind) in
+    rw (p.1, p.2) (kind_taken l _ n k (step_rejected n [] l _ c.read_number.ensures _ c.in_err-a.was))
 
 pub returns-in_err-b : goal.returns-in_err-b
 returns-in_err-b c =
     let p = err_from_is_err_and c.from_residual-in_err-b.result c.from_residual-in_err-b.ensures.1 in
     let n : ℕ = c.args.number in
     let l = c.args.log.now in
-    let k : Ok c.in_ok-kind.kind ≡ kind_of n = sym c.in_ok-kind.was ∙ c.try_from.ensures.kind in
+    let k = ok_known _ _ (sym c.in_ok-kind.was ∙ c.try_from.ensures.kind) in
     rw (p.1, p.2)
-    (kind_taken l _ n (ok_known _ _ k)
+    (kind_taken l _ n k
     (step_more n [] l _ c.read_number.ensures _ c.in_ok-a.was (step_rejected n _ l _ c.read_number-2.ensures _ c.in_err-b.was)))
 
 pub returns-in_err-c : goal.returns-in_err-c
@@ -39,9 +39,9 @@ returns-in_err-c c =
     let p = err_from_is_err_and c.from_residual-in_err-c.result c.from_residual-in_err-c.ensures.1 in
     let n : ℕ = c.args.number in
     let l = c.args.log.now in
-    let k : Ok c.in_ok-kind.kind ≡ kind_of n = sym c.in_ok-kind.was ∙ c.try_from.ensures.kind in
+    let k = ok_known _ _ (sym c.in_ok-kind.was ∙ c.try_from.ensures.kind) in
     rw (p.1, p.2)
-    (kind_taken l _ n (ok_known _ _ k)
+    (kind_taken l _ n k
     (step_more n [] l _ c.read_number.ensures _ c.in_ok-a.was
     (step_more n _ l _ c.read_number-2.ensures _ c.in_ok-b.was (step_rejected n _ l _ c.read_number-3.ensures _ c.in_err-c.was))))
 
