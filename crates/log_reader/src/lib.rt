@@ -2,7 +2,8 @@
 
 #![tactic(auto)]
 
-ghost use Rattle.types.specs.Kinds.{used_numbers};
+ghost use Rattle.types.specs.Kinds.{kind_of, used_numbers};
+ghost use Rattle.types.specs.Rules.{Known};
 ghost use Rattle.types.specs.Rejections.{answer_number};
 ghost use Rattle.std.specs.Prelude.{◌≡◌, cond, leb, drop};
 ghost use Rattle.model.specs.Numbers.{read_number, valued};
@@ -54,14 +55,14 @@ pub fn first_step(log: &[u8]) -> Result<Option<Reading>, Rejection>
 fn after_kind(log: &[u8], at: usize, number: u64) -> Result<Option<Reading>, Rejection>
     ensures { result ≡ kind_at log.now at number }
 {
-    let kind = Kind::try_from(number)?;
+    Kind::try_from(number)?;
     let a = read_number(log, at)?;
     let at_b = at + a.bytes;
     let b = read_number(log, at_b)?;
     let at_c = at_b + b.bytes;
     let c = read_number(log, at_c)?;
     let at_d = at_c + c.bytes;
-    let d = fourth(log, at_d, kind)?;
+    let d = fourth(log, at_d, number)?;
     Ok(Some(Reading {
         step: Step {
             kind: number,
@@ -74,11 +75,14 @@ fn after_kind(log: &[u8], at: usize, number: u64) -> Result<Option<Reading>, Rej
     }))
 }
 
-// The fourth number of a step at a position, or 0, of no bytes, where its kind uses three.
-fn fourth(log: &[u8], at: usize, kind: Kind) -> Result<Number, Rejection>
-    ensures { result ≡ cond (leb 4 (used_numbers (Ok kind))) (read_number (drop at log.now)) (valued 0 0) }
+// The fourth number of a step at a position, or 0, of no bytes, where the kind of a number uses three.
+#[inline]
+#[tactic(auto, unfolding(types::specs::Rules::fourth_numbers))]
+fn fourth(log: &[u8], at: usize, number: u64) -> Result<Number, Rejection>
+    requires { Known (kind_of number) }
+    ensures { result ≡ cond (leb 4 (used_numbers (kind_of number))) (read_number (drop at log.now)) (valued 0 0) }
 {
-    if kind.used() < 4 {
+    if Kind::fourths(number) == 0 {
         return Ok(Number { value: 0, bytes: 0 });
     }
     read_number(log, at)

@@ -30,18 +30,18 @@ pub fn read_step(log: &[u8], at: usize) -> Result<Option<Reading>, Rejection>
     ensures value { result ≡ read_at log.now at }
 {
     if short::is_short(log, at) {
-        return Ok(Some(Reading {
+        Ok(Some(Reading {
             step: short::step(log, at),
             next: at + short::byte_count(log, at),
-        }));
-    }
-    if long::is_long_add(log, at) {
-        return Ok(Some(Reading {
+        }))
+    } else if long::is_long_add(log, at) {
+        Ok(Some(Reading {
             step: long::step(log, at),
             next: at + long::byte_count(log, at),
-        }));
+        }))
+    } else {
+        log_reader::read_step(log, at)
     }
-    log_reader::read_step(log, at)
 }
 
 // Whether the bytes that are looked at are left at a position.
