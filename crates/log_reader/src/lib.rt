@@ -76,7 +76,7 @@ fn after_kind(log: &[u8], at: usize, number: u64) -> Result<Option<Reading>, Rej
 }
 
 // The fourth number of a step at a position, or 0, of no bytes, where the kind of a number uses three.
-#[inline]
+#[inline(always)]
 #[tactic(auto, unfolding(types::specs::Rules::fourth_numbers))]
 fn fourth(log: &[u8], at: usize, number: u64) -> Result<Number, Rejection>
     requires { Known (kind_of number) }
