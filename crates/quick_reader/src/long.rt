@@ -67,8 +67,8 @@ fn last_byte(log: &[u8], at: usize) -> u8
     last(log[at + 3], b)
 }
 
-// Whether eight bytes are left at a position and begin with an add whose shard and index have one byte each, and whose entry has five at most, the last
-// of them not 0.
+// Whether eight bytes are left at a position and begin with an add whose shard and index have one byte each, and whose entry has five at most, the
+// last of them not 0.
 #[tactic(auto, using(crate::proofs::LongAdds::long_tests))]
 pub fn is_long_add(log: &[u8], at: usize) -> bool
     ensures { result ≡ is_long_add_at log.now at }

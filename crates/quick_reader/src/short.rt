@@ -1,5 +1,5 @@
-// Steps whose numbers have one byte each, as most have. They are told with one test of four bytes, and read with no branch on the kind, which is hard to
-// foretell.
+// Steps whose numbers have one byte each, as most have. They are told with one test of four bytes, and read with no branch on the kind, which is hard
+// to foretell.
 ghost use Rattle.std.specs.Prelude.{◌≡◌, true};
 ghost use Rattle.quick_reader.specs.Short.{is_short_at, short_fourth, short_length, short_step};
 
