@@ -1,25 +1,21 @@
 -- A step is read number by number. Assumes nothing.
-use Rattle.std.specs.Prelude.{Ok, Err, Some, None}
+use Rattle.std.specs.Prelude.{Ok, Err, None}
 use Rattle.types.specs.declared.rejection.Rejection.TheVariants.{KeptKind, UnknownKind}
 use Rattle.model.specs.Numbers.{ReadNumber, valued}
 use Rattle.model.specs.Log.{ReadStep, one_step}
 use Prim.Native.Nat.{ℕ, suc, ◌+◌, ◌≤◌, ◌<◌}
-use native.Mathlib.Nat.{zero-add}
 use native.Mathlib.Omega.{arith}
-use mathlib.Core.Path.{◌≡◌, refl, sym, ap, ◌∙◌}
-use mathlib.Core.Bool.{Bool, true, false, cond}
+use mathlib.Core.Path.{◌≡◌, refl, sym, ◌∙◌}
+use mathlib.Core.Bool.{cond}
 use mathlib.Core.List.{List, [], ◌∷◌, ◌++◌, append_assoc, append-nil}
-use lib.Dec.{leb}
 use lib.ListN.{length, drop, length-drop, drop_of_length-le}
 use lib.Seq.{drop-drop}
-use Rattle.types.proofs.OkErr.{ok_is, ok_err}
-use Rattle.types.specs.declared.Number.{Number}
 use Rattle.types.specs.declared.step.Step.{Step}
 use Rattle.types.specs.declared.kind.NoKind.{NoKind}
 use Rattle.types.specs.declared.kind.NoKind.TheVariants.{Kept, Unknown}
 use Rattle.types.specs.declared.rejection.Rejection.{Rejection}
 use Rattle.types.specs.Rejections.{no_kind_rejection}
-use Rattle.types.specs.Kinds.{kind_of, is_kept, is_unknown, used_numbers}
+use Rattle.types.specs.Kinds.{kind_of, is_kept, is_unknown}
 use Rattle.model.specs.Log.{step_of, after_numbers, after_kind, read_step, read_at, from}
 use Rattle.model.specs.Numbers.{Numbers, values, rejected, read_number, read_numbers, after_first, with_first}
 use Rattle.model.proofs.Numbers.{number_bytes_least, number_within}
@@ -58,50 +54,11 @@ pub step_done : (k : ℕ) (prior log : List ℕ) (at : ℕ) → one_step (step_o
 unfolding read_numbers with_prior
 step_done k prior log at = let here : at + 0 ≡ at = omega arith in rw (append-nil prior, here)
 
--- x is the fourth number, or 0 of no bytes where the kind uses three
-module _
-    (k a b c : ℕ) (log : List ℕ) (at : ℕ) {x : ReadNumber}
-    (p : x ≡ cond (leb 4 (used_numbers (kind_of k))) (read_number (drop at log)) (valued 0 0))
-  where
-    pub fourth_done :
-        {d : Number} → x ≡ Ok d
-        → one_step (step_of k (a ∷ b ∷ c ∷ d.value ∷ [])) (at + d.bytes)
-        ≡ with_prior k (a ∷ b ∷ c ∷ []) at (read_numbers (fourth_numbers k) (drop at log))
-    unfolding fourth_numbers step_of
-    fourth_done {d} q = go (leb 4 (used_numbers (kind_of k))) p
-      where
-        go :
-            (t : Bool) → x ≡ cond t (read_number (drop at log)) (valued 0 0)
-            → one_step (step_of k (a ∷ b ∷ c ∷ d.value ∷ [])) (at + d.bytes)
-            ≡ with_prior k (a ∷ b ∷ c ∷ []) at (read_numbers (cond t 1 0) (drop at log))
-        go true e = step_more k (a ∷ b ∷ c ∷ []) log at e 0 q (step_done k (a ∷ b ∷ c ∷ d.value ∷ []) log (at + d.bytes))
-        go false e =
-            let here : at + 0 ≡ at = omega arith in
-            rw (← ok_is (sym e ∙ q), here) (step_done k (a ∷ b ∷ c ∷ []) log at)
-
-    pub fourth_rejected :
-        {r : Rejection} → x ≡ Err r → Err r ≡ with_prior k (a ∷ b ∷ c ∷ []) at (read_numbers (fourth_numbers k) (drop at log))
-    unfolding fourth_numbers
-    fourth_rejected {r} q = go (leb 4 (used_numbers (kind_of k))) p
-      where
-        go :
-            (t : Bool) → x ≡ cond t (read_number (drop at log)) (valued 0 0)
-            → Err r ≡ with_prior k (a ∷ b ∷ c ∷ []) at (read_numbers (cond t 1 0) (drop at log))
-        go true e = step_rejected k (a ∷ b ∷ c ∷ []) log at e 0 q
-        go false e = absurd (ok_err (sym e ∙ q))
-
 -- a number lies within the log, so the position after it fits
 pub number_inside : (log : List ℕ) (at : ℕ) {x : ReadNumber} → x ≡ read_number (drop at log) → {v n : ℕ} → x ≡ valued v n → at + n ≤ length log
 number_inside log at p q =
     let e = sym p ∙ q in
     omega (arith, number_bytes_least (drop at log) e, rw (length-drop at log) at (number_within (drop at log) e))
-
--- nor does the fourth number go past its end, or 0 of no bytes
-pub fourth_inside :
-    (t : Bool) (log : List ℕ) (at : ℕ) {x : ReadNumber} → x ≡ cond t (read_number (drop at log)) (valued 0 0) → at ≤ length log
-    → {d : Number} → x ≡ Ok d → at + d.bytes ≤ length log
-fourth_inside true log at e h q = number_inside log at e q
-fourth_inside false log at e h {d} q = rw (← ok_is (sym e ∙ q)) (omega arith)
 
 -- ---- the kind
 
@@ -189,14 +146,3 @@ module _ (log : List ℕ) (at : ℕ) where
   pub step_at : {s : Step} {n : ℕ} → read_step (drop at log) ≡ one_step s n → read_at log at ≡ one_step s (at + n)
   unfolding read_at from
   step_at e = rw e
-
--- at the start of a log, the position after a step is the count of its bytes
-from_start : (r : ReadStep) → from 0 r ≡ r
-unfolding from
-from_start (Ok (Some read)) = ap (one_step read.step) (zero-add read.next)
-from_start (Ok None) = refl
-from_start (Err r) = refl
-
-pub read_start : (log : List ℕ) → read_at log 0 ≡ read_step log
-unfolding read_at
-read_start log = from_start (read_step log)

@@ -2,19 +2,17 @@
 
 #![tactic(auto)]
 
-ghost use Rattle.types.specs.Kinds.{used_numbers};
 ghost use Rattle.types.specs.Rejections.{answer_number};
-ghost use Rattle.std.specs.Prelude.{◌≡◌, cond, leb, drop};
-ghost use Rattle.model.specs.Numbers.{read_number, valued};
+ghost use Rattle.std.specs.Prelude.{◌≡◌, drop};
 ghost use Rattle.model.specs.Log.{read_at, read_step};
 ghost use Rattle.model.specs.Results.{reading_step, reading_next, read_rejection, step_read, bytes_read, next_read};
 ghost use Rattle.log_reader.specs.ReadInParts.{kind_at};
 
 use numbers::read::read_number;
+use types::Reading;
 use types::kind::Kind;
 use types::rejection::Rejection;
 use types::step::Step;
-use types::{Number, Reading};
 
 // The step at a position of a log, with the position after it, or nothing where the log ends there.
 pub fn read_step(log: &[u8], at: usize) -> Result<Option<Reading>, Rejection>
@@ -35,8 +33,8 @@ pub fn read_step(log: &[u8], at: usize) -> Result<Option<Reading>, Rejection>
     }))
 }
 
-// The step at the start of a log, with the count of its bytes, or nothing where the log is empty. A caller that adds the count to a position itself need
-// not wait for the position inside the reader.
+// The step at the start of a log, with the count of its bytes, or nothing where the log is empty. A caller that adds the count to a position itself
+// need not wait for the position inside the reader.
 pub fn first_step(log: &[u8]) -> Result<Option<Reading>, Rejection>
     ensures result_value { answer_number result ≡ read_rejection log.now }
     ensures result_value_2 { reading_step result ≡ step_read log.now }
@@ -54,32 +52,32 @@ pub fn first_step(log: &[u8]) -> Result<Option<Reading>, Rejection>
 fn after_kind(log: &[u8], at: usize, number: u64) -> Result<Option<Reading>, Rejection>
     ensures { result ≡ kind_at log.now at number }
 {
-    let kind = Kind::try_from(number)?;
+    Kind::try_from(number)?;
     let a = read_number(log, at)?;
     let at_b = at + a.bytes;
     let b = read_number(log, at_b)?;
     let at_c = at_b + b.bytes;
     let c = read_number(log, at_c)?;
     let at_d = at_c + c.bytes;
-    let d = fourth(log, at_d, kind)?;
+    let three = Step {
+        kind: number,
+        a: a.value,
+        b: b.value,
+        c: c.value,
+        d: 0,
+    };
+    if Kind::fourths(number) == 0 {
+        return Ok(Some(Reading {
+            step: three,
+            next: at_d,
+        }));
+    }
+    let d = read_number(log, at_d)?;
     Ok(Some(Reading {
         step: Step {
-            kind: number,
-            a: a.value,
-            b: b.value,
-            c: c.value,
             d: d.value,
+            ..three
         },
         next: at_d + d.bytes,
     }))
-}
-
-// The fourth number of a step at a position, or 0, of no bytes, where its kind uses three.
-fn fourth(log: &[u8], at: usize, kind: Kind) -> Result<Number, Rejection>
-    ensures { result ≡ cond (leb 4 (used_numbers (Ok kind))) (read_number (drop at log.now)) (valued 0 0) }
-{
-    if kind.used() < 4 {
-        return Ok(Number { value: 0, bytes: 0 });
-    }
-    read_number(log, at)
 }

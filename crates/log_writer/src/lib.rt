@@ -60,6 +60,7 @@ fn fits(len: usize, at: usize, n: usize) -> bool
 }
 
 // How many bytes a step takes. Its kind takes one.
+#[tactic(auto, using(numbers::proofs::NumberLengths::length_most, crate::proofs::StepBytes::length_with_d, crate::proofs::StepBytes::length_no_d))]
 fn step_length(s: Step, used: usize) -> usize
     requires { s.kind < 128 }
     ensures { result ≡ length (bytes_of s used) }

@@ -6,7 +6,7 @@ use native.Mathlib.Omega.{arith}
 use mathlib.Core.Path.{◌≡◌, refl, sym, ap, ◌∙◌}
 use mathlib.Core.Bool.{Bool, true, false, not, ◌&&◌}
 use mathlib.Core.List.{List, [], ◌∷◌, ◌++◌}
-use lib.Bits.{bit_or, or_lt}
+use lib.Bits.{bit_or}
 use lib.Dec.{leb, ltb, eqb}
 use lib.ListN.{length, drop, get_or}
 use lib.Seq.{drop-cons, drop-drop}
@@ -94,9 +94,6 @@ module _ (l : List ℕ) (at : ℕ) where
 
     long_ends : last_byte (entry_bytes l at) ≡ 0 → ⊥
     long_ends = eqb-false _ _ (not-true _ passed.1.1.1.1.1.0)
-
-    pub long_joined : joined_bytes < 128
-    long_joined = or_lt 7 _ _ (or_lt 7 _ _ long_shard long_index) long_last
 
     entry_read : read_number (drop 3 (drop at l)) ≡ valued (long_entry l at) (groups_count (entry_bytes l at))
     unfolding read_number long_entry entry_bytes

@@ -1,5 +1,5 @@
-// The steps that logs mostly have, read with fewer branches than any step is (`log_reader`): those whose numbers have one byte each, and adds whose entry
-// may have several. What they read is in `model`: `Log`.
+// The steps that logs mostly have, read with fewer branches than any step is (`log_reader`): those whose numbers have one byte each, and adds whose
+// entry may have several. What they read is in `model`: `Log`.
 
 #![tactic(auto)]
 
@@ -20,8 +20,8 @@ const WINDOW: usize = 8;
 // The bit of a byte that tells that more bytes of its number follow (`numbers::TOP_BIT`).
 const TOP_BIT: u8 = 128;
 
-// The step at a position of a log, with the position after it, or nothing where the log ends there. It is to be put into the loops over logs: as a call it
-// costs them up to a quarter of their time.
+// The step at a position of a log, with the position after it, or nothing where the log ends there. It is put into the loops over logs: as a call it
+// would cost them up to a quarter of their time.
 #[inline(always)]
 pub fn read_step(log: &[u8], at: usize) -> Result<Option<Reading>, Rejection>
     ensures result_value { answer_number result ≡ read_rejection (drop at log.now) }
@@ -30,18 +30,18 @@ pub fn read_step(log: &[u8], at: usize) -> Result<Option<Reading>, Rejection>
     ensures value { result ≡ read_at log.now at }
 {
     if short::is_short(log, at) {
-        return Ok(Some(Reading {
+        Ok(Some(Reading {
             step: short::step(log, at),
             next: at + short::byte_count(log, at),
-        }));
-    }
-    if long::is_long_add(log, at) {
-        return Ok(Some(Reading {
+        }))
+    } else if long::is_long_add(log, at) {
+        Ok(Some(Reading {
             step: long::step(log, at),
             next: at + long::byte_count(log, at),
-        }));
+        }))
+    } else {
+        log_reader::read_step(log, at)
     }
-    log_reader::read_step(log, at)
 }
 
 // Whether the bytes that are looked at are left at a position.

@@ -18,7 +18,7 @@ fn joined(b: u8, rest: u64) -> u64
 }
 
 // The entry of an add at a position.
-#[tactic(auto, using(crate::proofs::LongAdds::long_fits, crate::proofs::LongAdds::long_last), unfolding(crate::specs::Long::long_entry, crate::specs::Long::entry_bytes))]
+#[tactic(auto, using(crate::proofs::LongAdds::long_fits, crate::proofs::LongAdds::long_last))]
 pub fn entry(log: &[u8], at: usize) -> u64
     requires { is_long_add_at log.now at ≡ true }
     ensures { result ≡ long_entry log.now at }
@@ -37,8 +37,8 @@ fn counted(b: u8, rest: usize) -> usize
     1 + usize::from(b / TOP_BIT) * rest
 }
 
-// How many bytes an add at a position has.
-#[tactic(auto, using(crate::proofs::LongAdds::long_fits), unfolding(crate::specs::Long::long_length, crate::specs::Long::entry_bytes))]
+// How many bytes an add at a position has: three of kind, shard and index, and those of the entry.
+#[tactic(auto, using(crate::proofs::LongAdds::long_fits))]
 pub fn byte_count(log: &[u8], at: usize) -> usize
     requires { is_long_add_at log.now at ≡ true }
     ensures { result ≡ long_length log.now at }
@@ -67,8 +67,8 @@ fn last_byte(log: &[u8], at: usize) -> u8
     last(log[at + 3], b)
 }
 
-// Whether eight bytes are left at a position and begin with an add whose shard and index have one byte each, and whose entry has five at most, the last
-// of them not 0.
+// Whether eight bytes are left at a position and begin with an add whose shard and index have one byte each, and whose entry has five at most, the
+// last of them not 0.
 #[tactic(auto, using(crate::proofs::LongAdds::long_tests))]
 pub fn is_long_add(log: &[u8], at: usize) -> bool
     ensures { result ≡ is_long_add_at log.now at }

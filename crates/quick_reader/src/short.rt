@@ -1,5 +1,5 @@
-// Steps whose numbers have one byte each, as most have. They are told with one test of four bytes, and read with no branch on the kind, which is hard to
-// foretell.
+// Steps whose numbers have one byte each, as most have. They are told with one test of four bytes, and read with no branch on the kind, which is hard
+// to foretell.
 ghost use Rattle.std.specs.Prelude.{◌≡◌, true};
 ghost use Rattle.quick_reader.specs.Short.{is_short_at, short_fourth, short_length, short_step};
 
@@ -17,8 +17,7 @@ pub fn is_short(log: &[u8], at: usize) -> bool
     ensures { result ≡ is_short_at log.now at }
 {
     has_window(log, at)
-        && 1 <= log[at]
-        && log[at] <= LAST_KIND
+        && matches!(log[at], 1..=LAST_KIND)
         && (log[at + 1] | log[at + 2] | log[at + 3] | log[at + 4]) < TOP_BIT
 }
 
@@ -31,7 +30,7 @@ pub fn fourth(log: &[u8], at: usize) -> u64
     u64::from(log[at + 4]) * Kind::fourths(u64::from(log[at]))
 }
 
-// How many bytes it has.
+// How many bytes it has: four of its kind and three numbers, and one where it has a fourth.
 #[tactic(auto, using(crate::proofs::ShortSteps::short_fits, types::proofs::KindRules::fourth_most), unfolding(crate::specs::Short::short_length))]
 pub fn byte_count(log: &[u8], at: usize) -> usize
     requires { is_short_at log.now at ≡ true }

@@ -35,8 +35,8 @@ returns-in_default c =
 
 pub overflow_add-result : goal.overflow_add-result
 overflow_add-result c =
-    let a = c.args in
-    omega (arith, step_inside a.log.now a.at (at_rest c.args.log.now c.args.at c.first_step.ensures.value) (rw c.in-Some.is at c.in_ok-first.was), c.if-log-at.false)
+    let l = c.args.log.now in
+    omega (arith, step_inside l c.args.at (at_rest l c.args.at c.first_step.ensures.value) (rw c.in-Some.is at c.in_ok-first.was), c.if-log-at.false)
 
 pub returns : goal.returns
 unfolding from
