@@ -28,13 +28,12 @@ pub fn are_numbers(kind: Kind, shards: usize, c: u64, d: u64) -> bool
     ensures { result ≡ are_numbers (Ok kind) shards c d }
 {
     let rules = kind.rules();
-    if rules.fourth < d {
-        return false;
-    }
-    if rules.host {
-        return c < 16;
-    }
-    wellformed_entries::entry::is_entry(shards, c)
+    let third = if rules.host {
+        c < 16
+    } else {
+        wellformed_entries::entry::is_entry(shards, c)
+    };
+    third && d <= rules.fourth
 }
 
 // The kind of a step whose kind, shard and index are in range where there are `shards` shards, or the rejection (3, 4 or 7).
