@@ -20,7 +20,7 @@ pub fn count_of(state: &[u64], s: Step, rejection: Rejection) -> Option<u64>
     ensures host { IfSome result (λ host. host < no_host) }
 {
     let host = s.host(orderer_named(state, s, rejection).unwrap_or(NO_HOST));
-    if host < NO_HOST { Some(host) } else { None }
+    (host < NO_HOST).then_some(host)
 }
 
 // The orderer of the configuration that a rejected step names, which has none where the rejection is 7 or 10.
