@@ -12,8 +12,8 @@ use types::step::Step;
 // Hosts are 0 to 15. The number after them is no host's.
 const NO_HOST: u64 = 16;
 
-// The host that a rejection counts for: the acting host; of an add, the orderer of the configuration named. None where no host, or no host's number, is
-// named.
+// The host that a rejection counts for: the acting host; of an add, the orderer of the configuration named. None where no host, or no host's number,
+// is named.
 pub fn count_of(state: &[u64], s: Step, rejection: Rejection) -> Option<u64>
     requires { RejectedStep state.now s rejection }
     ensures value { unwrap_or result no_host ≡ count_of state.now s }

@@ -15,12 +15,17 @@ use types::step::Step;
 
 pub mod acting;
 
+// A shard has so many configurations. Hosts are 0 to 15.
+const CONFIGURATIONS: u64 = 8;
+
+const HOSTS: u64 = 16;
+
 // Whether a shard and an index are in range.
 #[tactic(auto, unfolding(crate::specs::StepRanges::is_index_of))]
 pub fn is_index_of(shards: usize, shard: u64, index: u64) -> bool
     ensures { result ≡ is_index_of shards shard index }
 {
-    shard < shards as u64 && 1 <= index && index <= 8
+    shard < shards as u64 && 1 <= index && index <= CONFIGURATIONS
 }
 
 // Whether the third and fourth number suit a kind: the third is a host or an entry, the fourth is at most the kind's largest, 0 where it is not used.
@@ -29,7 +34,7 @@ pub fn are_numbers(kind: Kind, shards: usize, c: u64, d: u64) -> bool
 {
     let rules = kind.rules();
     let third = if rules.host {
-        c < 16
+        c < HOSTS
     } else {
         wellformed_entries::entry::is_entry(shards, c)
     };

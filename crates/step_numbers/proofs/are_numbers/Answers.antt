@@ -10,7 +10,11 @@ use Rattle.step_numbers.proofs.are_numbers.Goals.{Joined-rules, then-rules, else
 -- the test of the third number, at both exits
 third : (c : Joined-rules) → c.if-rules.third ≡ cond c.rules-rules.result.host (is_host c.args.c) (is_entry c.args.shards c.args.c)
 unfolding is_host
-third c = elim c.if-rules.branch [ then-rules w ↦ w.third-is ∙ rw w.if-rules.true | else-rules w ↦ w.third-is ∙ w.is_entry-third.ensures ∙ rw w.if-rules.false ]
+third c =
+    elim c.if-rules.branch [
+      | then-rules w ↦ w.third-is ∙ rw w.if-rules.true
+      | else-rules w ↦ w.third-is ∙ w.is_entry-third.ensures ∙ rw w.if-rules.false
+    ]
 
 pub returns-then-third : goal.returns-then-third
 returns-then-third c = sym (numbers_are _ c.rules-rules.ensures _ _ _ (third c.before.before) ∙ rw c.if-third.true)
