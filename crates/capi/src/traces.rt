@@ -21,7 +21,7 @@ pub extern "C" fn penkwadar_trace(
     ensures count_after { count.new ≡ box_count_after state.now zone index host out.old count.old }
 {
     if count.len() < 1 {
-        return 8;
+        return u64::from(Rejection::OutputLength);
     }
     put_count(count, copy_boxes(state, zone, index, host, out))
 }
