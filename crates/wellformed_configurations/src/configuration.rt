@@ -1,5 +1,5 @@
 // A configuration: its head words and its four replicas.
-ghost use Rattle.std.specs.Prelude.{◌≡◌, true, ◌+◌, ◌*◌, ◌≤◌, ◌<◌, ltb, length};
+ghost use Rattle.std.specs.Prelude.{◌≡◌, true, ◌+◌, ◌*◌, ◌≤◌, ltb, length};
 ghost use Rattle.model.specs.Tests.{all_below};
 ghost use Rattle.model.specs.Layout.{shard_words, configuration_words, part};
 ghost use Rattle.types.specs.ReplicaPlace.{part_words};
@@ -75,7 +75,7 @@ pub fn is_configuration_of(state: &[u64], shards: usize, at: Named) -> bool
     }
 }
 
-// Whether the eight configurations of shard z are well-formed.
+// Whether the eight configurations of shard z are well-formed. A loop, since the test of each one requires that those before it passed.
 pub fn all_configurations(state: &[u64], shards: usize, z: usize) -> bool
     requires { z * shard_words + shard_words ≤ length state.now }
     ensures { result ≡ all_below 8 (is_configuration_of state.now shards z) }

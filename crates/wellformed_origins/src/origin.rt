@@ -1,5 +1,5 @@
 // The origin of a replica, its word 3: the host of the configuration before from which it began, plus 1.
-ghost use Rattle.std.specs.Prelude.{◌≡◌, not, ◌-◌, ◌≤◌, ◌<◌};
+ghost use Rattle.std.specs.Prelude.{◌≡◌, not, ◌≤◌, ◌<◌};
 ghost use Rattle.model.specs.Tests.{all_below};
 ghost use Rattle.model.specs.Replicas.{is_pending};
 ghost use Rattle.model.specs.Layout.{place, replica_at, members};
