@@ -20,5 +20,11 @@ pub fn is_newest_wedged(state: &[u64], z: usize) -> bool
     ensures { result ≡ is_newest_wedged state.now z }
 {
     let installed = state[z * SHARD_WORDS + INSTALLED] as usize;
-    is_wedged(state, Named { z, j: installed - 1 })
+    is_wedged(
+        state,
+        Named {
+            z,
+            j: installed - 1,
+        },
+    )
 }

@@ -9,7 +9,7 @@ ghost use Rattle.wellformed_origins.specs.Before.{HasBefore};
 use lookup::name::Named;
 use types::configuration::Configuration;
 use types::layout::{
-    CONFIGURATIONS, CONFIGURATION_WORDS, ENTRIES, INSTALLED, LENGTH, MEMBERS, ORDERERS,
+    CONFIGURATION_WORDS, CONFIGURATIONS, ENTRIES, INSTALLED, LENGTH, MEMBERS, ORDERERS,
     REPLICA_WORDS,
 };
 use wellformed_entries::entry::each_entry;
