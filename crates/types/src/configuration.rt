@@ -6,7 +6,7 @@ ghost use Rattle.types.specs.ReplicaPlace.{replica_place};
 use crate::layout::REPLICA_WORDS;
 
 // A member set: the bit of each host in it is set.
-#[derive(Clone, Copy)]
+#[derive(Clone, Copy, Debug, PartialEq, Eq)]
 pub struct Members(pub u64);
 
 impl Members {
@@ -35,7 +35,7 @@ impl Members {
     }
 }
 
-#[derive(Clone, Copy)]
+#[derive(Clone, Copy, Debug, PartialEq, Eq)]
 pub struct Configuration {
     pub place: usize,
     pub members: u64,
