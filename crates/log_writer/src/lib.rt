@@ -9,6 +9,7 @@ ghost use Rattle.model.specs.Writer.{step_bytes, write_rejection, writing, after
 ghost use Rattle.model.specs.Results.{count_beside};
 ghost use Rattle.log_writer.specs.WriteInParts.{writable, bytes_of, StepRoom};
 
+use decimal_text::text::Text;
 use numbers::write::{number_length, write_number};
 use numbers::{LIMIT, MOST_BYTES};
 use types::kind::Kind;
@@ -73,17 +74,19 @@ fn step_length(s: Step, used: usize) -> usize
 }
 
 // Writes the bytes of a step where the output has room for them, and returns the position after them.
+#[tactic(auto, using(decimal_text::proofs::Appending::appending), unfolding(crate::specs::WriteInParts::bytes_of))]
 fn write_bytes(out: &mut [u8], at: usize, s: Step, used: usize) -> usize
     requires { StepRoom out.old at s used }
     ensures value { result ≡ at + length (bytes_of s used) }
     ensures out_after { out.new ≡ sets out.old at (bytes_of s used) }
 {
-    let at_a = write_number(out, at, s.kind);
-    let at_b = write_number(out, at_a, s.a);
-    let at_c = write_number(out, at_b, s.b);
-    let at_d = write_number(out, at_c, s.c);
+    let mut log = Text::new(out, at);
+    write_number(&mut log, s.kind);
+    write_number(&mut log, s.a);
+    write_number(&mut log, s.b);
+    write_number(&mut log, s.c);
     if 4 <= used {
-        return write_number(out, at_d, s.d);
+        write_number(&mut log, s.d);
     }
-    at_d
+    log.end()
 }
