@@ -28,7 +28,7 @@ pub fn number_length(n: u64) -> usize
     }
 }
 
-// Appends the bytes of a number. It is put into the writer of a step: as a call it would keep the position in memory.
+// Appends the bytes of a number. It is put into the writer of steps: as a call it makes them up to a seventh slower, with the position in memory.
 #[inline(always)]
 pub fn write_number(out: &mut Text, n: u64)
     requires { (n < 2 ^ 35) × HasRoom out.old (number_bytes n) }

@@ -44,7 +44,7 @@ fn last_byte(log: &[u8], at: usize) -> u8
     last(log[at + 3], b)
 }
 
-// A position of a log where a long add is.
+// A position of a log where a long add is. It shares no trait with `Short`: all that one could provide is the sum in `reading`.
 #[derive(Drop)]
 pub struct LongAdd<'a> {
     log: &'a [u8],
