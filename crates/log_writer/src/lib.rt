@@ -38,7 +38,7 @@ pub fn write_step(out: &mut [u8], at: usize, s: Step) -> Result<usize, Rejection
     Ok(end - at)
 }
 
-// A step of a known kind, and how many numbers its kind uses. Its kind takes one byte. Its methods take it by value, as steps are.
+// A step, and how many numbers its kind uses. The kind takes one byte. The methods take it by value, as steps are taken.
 #[derive(Clone, Copy)]
 struct WrittenStep {
     s: Step,
