@@ -38,7 +38,7 @@ pub fn write_step(out: &mut [u8], at: usize, s: Step) -> Result<usize, Rejection
     Ok(end - at)
 }
 
-// A step of a known kind, and how many numbers its kind uses. Its kind takes one byte.
+// A step, and how many numbers its kind uses. The kind takes one byte. The methods take it by value, as steps are taken.
 #[derive(Clone, Copy)]
 struct WrittenStep {
     s: Step,
@@ -49,24 +49,24 @@ struct WrittenStep {
 impl WrittenStep {
     // Whether each number can be written, and an unused one is 0.
     #[tactic(auto, unfolding(crate::specs::WriteInParts::writable, model::specs::Writer::is_writable))]
-    fn is_writable(&self) -> bool
-        ensures { result ≡ writable self.now.s self.now.used }
+    fn is_writable(self) -> bool
+        ensures { result ≡ writable self.s self.used }
     {
         let s = self.s;
         s.a < LIMIT && s.b < LIMIT && s.c < LIMIT && s.d < LIMIT && (4 <= self.used || s.d == 0)
     }
 
     // Whether an output of a length has room for it at a position. Most outputs have it for any step.
-    fn has_room(&self, len: usize, at: usize) -> bool
-        ensures { result ≡ leb (at + length (bytes_of self.now.s self.now.used)) len }
+    fn has_room(self, len: usize, at: usize) -> bool
+        ensures { result ≡ leb (at + length (bytes_of self.s self.used)) len }
     {
         fits(len, at, MOST_STEP_BYTES) || fits(len, at, self.length())
     }
 
     // How many bytes it takes.
     #[tactic(auto, using(numbers::proofs::NumberLengths::length_most, crate::proofs::StepBytes::length_with_d, crate::proofs::StepBytes::length_no_d))]
-    fn length(&self) -> usize
-        ensures { result ≡ length (bytes_of self.now.s self.now.used) }
+    fn length(self) -> usize
+        ensures { result ≡ length (bytes_of self.s self.used) }
     {
         let s = self.s;
         let three = 1 + number_length(s.a) + number_length(s.b) + number_length(s.c);
@@ -78,10 +78,10 @@ impl WrittenStep {
 
     // Writes its bytes where the output has room for them, and returns the position after them.
     #[tactic(auto, using(decimal_text::proofs::Appending::appending), unfolding(crate::specs::WriteInParts::bytes_of))]
-    fn write(&self, out: &mut [u8], at: usize) -> usize
-        requires { StepRoom out.old at self.now.s self.now.used }
-        ensures value { result ≡ at + length (bytes_of self.now.s self.now.used) }
-        ensures out_after { out.new ≡ sets out.old at (bytes_of self.now.s self.now.used) }
+    fn write(self, out: &mut [u8], at: usize) -> usize
+        requires { StepRoom out.old at self.s self.used }
+        ensures value { result ≡ at + length (bytes_of self.s self.used) }
+        ensures out_after { out.new ≡ sets out.old at (bytes_of self.s self.used) }
     {
         let s = self.s;
         let mut log = Text::new(out, at);

@@ -9,4 +9,4 @@ pub returns-then-fits : goal.returns-then-fits
 returns-then-fits c =
     let a = c.args in
     let room = leb-true _ _ (sym c.if-fits.ensures) in
-    c.if-fits.true ∙ sym (le-leb _ _ (omega (arith, bytes_most a.self.now.s a.self.now.used)))
+    c.if-fits.true ∙ sym (le-leb _ _ (omega (arith, bytes_most a.self.s a.self.used)))
