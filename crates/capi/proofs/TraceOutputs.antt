@@ -13,14 +13,26 @@ use Rattle.types.specs.declared.rejection.Rejection.{Rejection}
 use Rattle.types.specs.declared.rejection.Rejection.TheVariants.{OutputLength}
 use Rattle.types.specs.Rejections.{Written, numbered, answered, answer_number}
 use Rattle.types.proofs.Rejections.{answered_number}
+use Rattle.model.specs.Checks.{first_of, ◌or_else◌}
+use Rattle.model.proofs.Results.{first_below}
 use Rattle.stable_entries.specs.Listing.{listing_of, after_listing_of}
 use Rattle.stable_entries.proofs.Listings.{rejects}
 use Rattle.histories.specs.Traces.{trace_of, trace_rejection, traced}
 use Rattle.histories.proofs.TraceAnswers.{no_trace}
-use Rattle.histories.proofs.NamedReplicas.{below as checks_below}
+use Rattle.histories.specs.NamedReplicas.{replica_checks}
 use Rattle.word_outputs.specs.WordOutputs.{count_word}
-use Rattle.word_outputs.specs.TraceOutputs.{boxes_rejection, trace_answer, boxes_after, box_count_after}
+use Rattle.word_outputs.specs.TraceOutputs.{boxes_rejection, boxes_copied, boxes_left, trace_answer, boxes_after, box_count_after}
 use Rattle.capi.proofs.Counts.{no_word, counted}
+
+-- the word of an answer by its number: the count n where that is 0
+count_written : (count : List ℕ) (rejection n : ℕ) {x : Written} → x ≡ answered rejection n
+    → sets count 0 (count_word x) ≡ cond (eqb rejection 0) (sets count 0 (n ∷ [])) count
+unfolding answered
+count_written count rejection n e = ap (λ (x : Written). sets count 0 (count_word x)) e ∙ go (eqb rejection 0)
+  where
+    go : (t : Bool) → sets count 0 (count_word (cond {A = Written} t (Ok n) (Err (numbered rejection)))) ≡ cond t (sets count 0 (n ∷ [])) count
+    go true = refl
+    go false = refl
 
 -- what the call leaves: its answer, its boxes and their count
 abbrev Leaves : List ℕ → ℕ → ℕ → ℕ → List ℕ → List ℕ → ℕ → List ℕ → List ℕ → Type 0
@@ -33,45 +45,32 @@ module _ (w : List ℕ) (z i h : ℕ) (out : List ℕ) where
 
   -- what the copy answers, and leaves of the output
   abbrev Copies : Written → List ℕ → Type 0
-  Copies r last = (r ≡ listing_of (boxes_rejection w z i h out) boxes) × (last ≡ after_listing_of (boxes_rejection w z i h out) boxes out)
+  Copies r last = (r ≡ boxes_copied w z i h out) × (last ≡ boxes_left w z i h out)
 
   pub no_room : length out < 7 → Copies (Err OutputLength) out
-  unfolding boxes_rejection
+  unfolding boxes_copied boxes_left boxes_rejection
   no_room l = rejects OutputLength boxes out (rw (lt-leb 7 (length out) l))
 
   module _ (room : 7 ≤ length out) where
     pub refused : {r : Rejection} → Err r ≡ traced w z i h → Copies (Err r) out
-    unfolding boxes_rejection
+    unfolding boxes_copied boxes_left boxes_rejection
     refused {r} e = rejects r boxes out (rw (le-leb 7 (length out) room) (no_trace w z i h e))
 
     pub copied : {l : List ℕ} → (trace_rejection w z i h ≡ 0) × (l ≡ boxes) → Copies (Ok (length l)) (l ++ drop (length l) out)
-    unfolding boxes_rejection listing_of after_listing_of answered
+    unfolding boxes_copied boxes_left boxes_rejection listing_of after_listing_of answered
     copied p = (rw (le-leb 7 (length out) room, p.0, p.1), rw (le-leb 7 (length out) room, p.0, p.1))
 
-  one_below : (t : Bool) (m n : ℕ) → ltb m 25 ≡ true → ltb n 25 ≡ true → ltb (cond t m n) 25 ≡ true
-  one_below true m n a b = a
-  one_below false m n a b = b
-
   below : ltb (boxes_rejection w z i h out) 25 ≡ true
-  unfolding boxes_rejection trace_rejection
-  below = one_below (leb 7 (length out)) _ 8 (checks_below w z i h) refl
+  unfolding boxes_rejection trace_rejection replica_checks first_of
+  below = first_below (leb 7 (length out) or_else 8 ∷ replica_checks w z i h) refl
 
-  -- the count of a copy that answered r, written to an output of its own
-  module _ (count : List ℕ) (one : 1 ≤ length count) {r : Written} {last : List ℕ} (c : Copies r last) where
-    count_written : sets count 0 (count_word r) ≡ cond (eqb (boxes_rejection w z i h out) 0) (sets count 0 (length boxes ∷ [])) count
-    unfolding listing_of answered
-    count_written = ap (λ (x : Written). sets count 0 (count_word x)) c.0 ∙ go (eqb (boxes_rejection w z i h out) 0)
-      where
-        go : (t : Bool) → sets count 0 (count_word (cond {A = Written} t (Ok (length boxes)) (Err (numbered (boxes_rejection w z i h out)))))
-            ≡ cond t (sets count 0 (length boxes ∷ [])) count
-        go true = refl
-        go false = refl
-
-    pub counts : {n : ℕ} {after : List ℕ} → n ≡ answer_number r → after ≡ sets count 0 (count_word r) → Leaves w z i h out count n last after
-    unfolding trace_answer boxes_after box_count_after listing_of
-    counts e a =
-        counted _ _ _ _ _ one (e ∙ ap (answer_number {A = ℕ}) c.0 ∙ answered_number (boxes_rejection w z i h out) (length boxes) below) c.1
-        (a ∙ count_written)
+  -- the call leaves what the copy does, whose count is written to an output of its own
+  pub counts : (count : List ℕ) → 1 ≤ length count → {r : Written} {last : List ℕ} → Copies r last → {n : ℕ} {after : List ℕ}
+      → n ≡ answer_number r → after ≡ sets count 0 (count_word r) → Leaves w z i h out count n last after
+  unfolding trace_answer boxes_after box_count_after boxes_copied listing_of
+  counts count one c e a =
+      counted _ _ _ _ _ one (e ∙ ap (answer_number {A = ℕ}) c.0 ∙ answered_number (boxes_rejection w z i h out) (length boxes) below) c.1
+      (a ∙ count_written count (boxes_rejection w z i h out) (length boxes) c.0)
 
 pub no_count : (w : List ℕ) (z i h : ℕ) (out count : List ℕ) → length count < 1 → Leaves w z i h out count 8 out count
 unfolding trace_answer boxes_after box_count_after

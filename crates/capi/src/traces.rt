@@ -1,8 +1,6 @@
 // Where a seat got its list: the boxes from which it and its sources began.
-ghost use Rattle.std.specs.Prelude.{◌≡◌, ◌-◌};
-ghost use Rattle.histories.specs.Traces.{trace_of};
-ghost use Rattle.stable_entries.specs.Listing.{listing_of, after_listing_of};
-ghost use Rattle.word_outputs.specs.TraceOutputs.{boxes_rejection, trace_answer, boxes_after, box_count_after};
+ghost use Rattle.std.specs.Prelude.{◌≡◌};
+ghost use Rattle.word_outputs.specs.TraceOutputs.{boxes_copied, boxes_left, trace_answer, boxes_after, box_count_after};
 
 use histories::trace::{MOST_HOSTS, trace};
 use types::rejection::Rejection;
@@ -36,8 +34,8 @@ fn copy_boxes(
     host: u64,
     out: &mut [u64],
 ) -> Result<usize, Rejection>
-    ensures value { result ≡ listing_of (boxes_rejection state.now zone index host out.old) (trace_of state.now zone (index - 1) host) }
-    ensures out_after { out.new ≡ after_listing_of (boxes_rejection state.now zone index host out.old) (trace_of state.now zone (index - 1) host) out.old }
+    ensures value { result ≡ boxes_copied state.now zone index host out.old }
+    ensures out_after { out.new ≡ boxes_left state.now zone index host out.old }
 {
     if out.len() < MOST_HOSTS {
         return Err(Rejection::OutputLength);

@@ -1,7 +1,6 @@
 -- The text for spreadsheets (document 02, A1), and what writing it answers and leaves.
-use Rattle.std.specs.Prelude.{Ok, Err}
-use Rattle.types.specs.Rejections.{Written}
-use Rattle.std.specs.Prelude.{ℕ, cond, List, [], ◌∷◌, ◌++◌, eqb, length}
+use Rattle.types.specs.Rejections.{Written, answered}
+use Rattle.std.specs.Prelude.{ℕ, cond, List, [], ◌∷◌, ◌++◌, length}
 use Rattle.model.specs.Checks.{first_of, ◌or_else◌}
 use Rattle.model.specs.Entries.{is_issue}
 use Rattle.model.specs.Layout.{is_state_length}
@@ -61,7 +60,7 @@ csv_count w out = count_beside (csv_rejection w out) (csv w)
 
 -- both as one answer
 unfoldable pub csv_writing : List ℕ → List ℕ → Written
-csv_writing w out = cond (eqb (csv_rejection w out) 0) (Ok (length (csv w))) (Err (csv_rejection w out))
+csv_writing w out = answered (csv_rejection w out) (length (csv w))
 
 -- "Only the exact text is written"
 unfoldable pub after_csv : List ℕ → List ℕ → List ℕ

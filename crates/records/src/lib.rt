@@ -8,30 +8,23 @@ ghost use Rattle.std.specs.Prelude.{◌≡◌};
 ghost use Rattle.csv_rows.specs.Csv.{csv_rejection, csv_count, csv_writing, after_csv};
 
 use crate::text::{HEADER_BYTES, SHARD_MOST};
-use types::Writing;
+use types::rejection::Rejection;
 
 mod text;
 
-// Writes the text of a state: its length, or the rejection (1, 9 or 8), which leaves the output untouched.
-pub fn csv(state: &[u64], out: &mut [u8]) -> Writing
+// Writes the text of a state: its length, or the rejection (1, 9 or 8), which leaves the output untouched. The text is measured only where it might not
+// fit.
+pub fn csv(state: &[u64], out: &mut [u8]) -> Result<usize, Rejection>
     ensures result_value { answer_number result ≡ csv_rejection state.now out.old }
     ensures result_value_2 { answer_count result ≡ csv_count state.now out.old }
     ensures value { result ≡ csv_writing state.now out.old }
     ensures out_after { out.new ≡ after_csv state.now out.old }
 {
-    let shards = wellformed::shard_count(state.len());
-    if shards == 0 {
-        return Writing::Rejected(1);
+    let shards = wellformed::check(state)?;
+    if out.len() < HEADER_BYTES + SHARD_MOST * shards
+        && out.len() < text::text_length(state, shards)
+    {
+        return Err(Rejection::OutputLength);
     }
-    if !wellformed::well_formed(state) {
-        return Writing::Rejected(9);
-    }
-    // The text is measured only where it might not fit.
-    if out.len() < HEADER_BYTES + SHARD_MOST * shards {
-        if out.len() < text::text_length(state, shards) {
-            return Writing::Rejected(8);
-        }
-    }
-    let len = text::write_text(out, state, shards);
-    Writing::Bytes(len)
+    Ok(text::write_text(out, state, shards))
 }
