@@ -1,6 +1,8 @@
 -- The answer and output of the step reader: with too short an output, and from what the readers return.
 -- Assumes nothing.
-use Rattle.types.specs.Rejections.{answer_number}
+use Rattle.types.specs.declared.rejection.Rejection.{Rejection}
+use Rattle.types.specs.Rejections.{rejection_number, answer_number}
+use Rattle.types.proofs.Rejections.{number_not_0}
 use Rattle.std.specs.Prelude.{Err}
 use Rattle.model.specs.Log.{ReadStep, one_step}
 use Prim.Native.Nat.{ℕ, ◌≤◌, ◌<◌}
@@ -14,7 +16,6 @@ use Rattle.types.specs.declared.step.Step.{Step}
 use Rattle.model.specs.Log.{read_step, read_at}
 use Rattle.model.specs.Results.{reading_step, reading_next, read_rejection}
 use Rattle.model.proofs.Results.{reads_at}
-use Rattle.transcript.proofs.StepSizes.{step_damage}
 use Rattle.word_outputs.specs.WordOutputs.{step_words}
 use Rattle.word_outputs.specs.StepOutputs.{read_answer, step_after}
 
@@ -33,15 +34,8 @@ module _ (log : List ℕ) (at : ℕ) (step : List ℕ) where
         let n : read_rejection (drop at log) ≡ 0 = sym r.0 ∙ z in
         (rw (le-leb _ _ h, n), rw (le-leb _ _ h, n, ← r.1.0, ← r.1.1.0) q)
 
-    -- a step that its bytes tell
-    pub read_told : {s : Step} {n : ℕ} {words : List ℕ} → read_at log at ≡ one_step s n → words ≡ sets step 0 (step_words s n)
-        → (0 ≡ read_answer log at step) × (words ≡ step_after log at step)
-    unfolding reading_step reading_next
-    read_told e q = read (sym e) refl q
-
-    -- a rejection is no 0
-    pub read_rejected : {r : ℕ} → read_step (drop at log) ≡ Err r → (r ≡ read_answer log at step) × (step ≡ step_after log at step)
-    unfolding read_answer step_after read_rejection
+    pub read_rejected : {r : Rejection} → read_at log at ≡ Err r → (rejection_number r ≡ read_answer log at step) × (step ≡ step_after log at step)
+    unfolding read_answer step_after
     read_rejected {r} e =
-        let n = ne_eqb r 0 (λ z. omega (arith, z, (step_damage (drop at log) e).least)) in
-        (rw (le-leb _ _ h, e), rw (le-leb _ _ h, e, n))
+        let n : read_rejection (drop at log) ≡ rejection_number r = sym (reads_at log at (sym e)).0 in
+        (rw (le-leb _ _ h, n), rw (le-leb _ _ h, n, number_not_0 r))

@@ -8,9 +8,11 @@ use lib.Dec.{eqb, leb}
 use lib.ListN.{length}
 use lib.Seq.{sets}
 use borrow.Author.Tests.{le-leb, lt-leb}
+use Rattle.std.specs.Prelude.{Result}
 use Rattle.types.specs.declared.Report.{Report}
+use Rattle.types.specs.declared.rejection.Rejection.{Rejection}
 use Rattle.model.specs.Replay.{replay_rejection, replayed, report, after_replay}
-use Rattle.model.specs.Results.{stop_number}
+use Rattle.model.specs.Results.{report_number}
 use Rattle.tallies.specs.declared.tally.Tally.{Tally}
 use Rattle.tallies.specs.Tally.{tally_of, tally_after}
 use Rattle.tallies.proofs.TallyCounts.{host_counts_long}
@@ -69,9 +71,9 @@ module _ (w log : List ℕ) (budget : ℕ) (rep out : List ℕ) where
   unfolding tally_answer tally_state_after tally_report_after tally_words_after
   no_tally l = let f = lt-leb 17 (length out) l in (rw f, (rw f, (rw f, rw f)))
 
-  pub replays_tally : 4 ≤ length rep → 17 ≤ length out → {x : Report} {t : Tally} {v : List ℕ}
+  pub replays_tally : 4 ≤ length rep → 17 ≤ length out → {x : Result Report Rejection} {t : Tally} {v : List ℕ}
       → x ≡ report w log budget → t ≡ tally_after (tally_in out) w log budget → v ≡ after_replay w log budget
-      → {r : ℕ} {words counts : List ℕ} → (r ≡ stop_number x.stop) × (words ≡ sets rep 0 (reported_words x)) → counts ≡ sets out 0 (tally_words t)
+      → {r : ℕ} {words counts : List ℕ} → (r ≡ report_number x) × (words ≡ sets rep 0 (reported_words x)) → counts ≡ sets out 0 (tally_words t)
       → Leaves w log budget rep out r v words counts
   unfolding tally_answer tally_state_after tally_report_after
   replays_tally h room p q s c d =

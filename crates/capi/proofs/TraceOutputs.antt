@@ -22,17 +22,7 @@ use Rattle.histories.proofs.TraceAnswers.{no_trace}
 use Rattle.histories.specs.NamedReplicas.{replica_checks}
 use Rattle.word_outputs.specs.WordOutputs.{count_word}
 use Rattle.word_outputs.specs.TraceOutputs.{boxes_rejection, boxes_copied, boxes_left, trace_answer, boxes_after, box_count_after}
-use Rattle.capi.proofs.Counts.{no_word, counted}
-
--- the word of an answer by its number: the count n where that is 0
-count_written : (count : List ℕ) (rejection n : ℕ) {x : Written} → x ≡ answered rejection n
-    → sets count 0 (count_word x) ≡ cond (eqb rejection 0) (sets count 0 (n ∷ [])) count
-unfolding answered
-count_written count rejection n e = ap (λ (x : Written). sets count 0 (count_word x)) e ∙ go (eqb rejection 0)
-  where
-    go : (t : Bool) → sets count 0 (count_word (cond {A = Written} t (Ok n) (Err (numbered rejection)))) ≡ cond t (sets count 0 (n ∷ [])) count
-    go true = refl
-    go false = refl
+use Rattle.capi.proofs.Counts.{no_word, counted, count_written}
 
 -- what the call leaves: its answer, its boxes and their count
 abbrev Leaves : List ℕ → ℕ → ℕ → ℕ → List ℕ → List ℕ → ℕ → List ℕ → List ℕ → Type 0

@@ -37,7 +37,8 @@ fn issuer(state: &[u64], at: Named, host: u64) -> Result<usize, Rejection>
     lookup::find(state, sequencer, host)
 }
 
-// Installs what a place of the issuer's history has: the next configuration pending, or the rejection (7, 10, 11, 20, 21, 24, 22) and the state as it was.
+// Installs what a place of the issuer's history has: the next configuration pending, or the rejection (7, 10, 11, 20, 21, 24, 22) and the state as it
+// was.
 pub fn install(
     state: &mut [u64],
     shards: usize,

@@ -1,14 +1,16 @@
 -- Whose rejection a step's is, as the code finds it.
 -- Assumes nothing.
-use Prim.Native.Nat.{ℕ, ◌-◌, ◌≤◌, ◌<◌}
+use Prim.Native.Nat.{ℕ, ◌-◌, ◌≤◌}
 use native.Mathlib.Omega.{arith}
 use mathlib.Core.Path.{◌≡◌, refl, sym, ap, ◌∙◌}
 use mathlib.Core.Logic.{◌⊎◌, inl, inr}
-use mathlib.Core.Bool.{Bool, true, false}
+use mathlib.Core.Bool.{Bool, true, false, cond}
 use mathlib.Core.List.{List, [], ◌∷◌}
 use lib.Dec.{leb, ltb}
 use lib.ListN.{length}
-use borrow.Author.Tests.{le-leb, leb-true, ltb-true, lt-ltb, le-ltb, ne_eqb}
+use borrow.Author.Tests.{le-leb, leb-true, ltb-true, ne_eqb}
+use Rattle.std.specs.Prelude.{unwrap_or}
+use Rattle.std.specs.Bool.{then_some}
 use Rattle.types.specs.declared.step.Step.{Step}
 use Rattle.types.specs.declared.rejection.Rejection.{Rejection}
 use Rattle.types.specs.declared.rejection.Rejection.TheVariants.{OutOfRange, NotInstalled}
@@ -85,10 +87,10 @@ module _ (w : List ℕ) (s : Step) {o h : ℕ} (q : o ≡ orderer_named w s) (e 
   unfolding named_host
   host_is = sym (e ∙ ap (acting_host s) q)
 
-  pub own_count : h < 16 → h ≡ count_of w s
+  pub counted : unwrap_or (then_some (ltb h 16) h) no_host ≡ count_of w s
   unfolding count_of is_host
-  own_count l = rw (host_is, lt-ltb h 16 l)
-
-  pub no_count_lem : 16 ≤ h → 16 ≡ count_of w s
-  unfolding count_of is_host
-  no_count_lem l = rw (host_is, le-ltb h 16 l)
+  counted = rw host_is (pushed (ltb h 16))
+    where
+      pushed : (t : Bool) → unwrap_or (then_some t h) 16 ≡ cond t h 16
+      pushed true = refl
+      pushed false = refl

@@ -12,15 +12,15 @@ use types::step::Step;
 // Hosts are 0 to 15. The number after them is no host's.
 const NO_HOST: u64 = 16;
 
-// The host that a rejection counts for: the acting host; of an add, the orderer of the configuration named. None where no host, or no host's number, is
-// named.
+// The host that a rejection counts for: the acting host; of an add, the orderer of the configuration named. None where no host, or no host's number,
+// is named.
 pub fn count_of(state: &[u64], s: Step, rejection: Rejection) -> Option<u64>
     requires { RejectedStep state.now s rejection }
     ensures value { unwrap_or result no_host ≡ count_of state.now s }
     ensures host { IfSome result (λ host. host < no_host) }
 {
     let host = s.host(orderer_named(state, s, rejection).unwrap_or(NO_HOST));
-    if host < NO_HOST { Some(host) } else { None }
+    (host < NO_HOST).then_some(host)
 }
 
 // The orderer of the configuration that a rejected step names, which has none where the rejection is 7 or 10.

@@ -10,8 +10,8 @@ use entry_search::{has_entry, is_issued};
 use types::layout::{ENTRIES, LENGTH};
 use types::rejection::Rejection;
 
-// What a history has against an entry: that it holds it (15), or another issue for the same shard and index (23). An issue that stands there is one for its
-// own shard and index, so of an issue that is new one pass tells both.
+// What a history has against an entry: that it holds it (15), or another issue for the same shard and index (23). An issue that stands there is one
+// for its own shard and index, so of an issue that is new one pass tells both.
 fn conflict(history: &[u64], e: u64) -> Result<(), Rejection>
     ensures { answer_number result ≡ first_of (held_checks e history.now) }
 {

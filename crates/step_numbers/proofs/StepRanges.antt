@@ -1,11 +1,10 @@
 -- The tests of a step's numbers, by what its kind has.
 -- Assumes nothing.
-use Prim.Native.Nat.{ℕ, ◌≤◌, ◌<◌}
+use Prim.Native.Nat.{ℕ}
 use native.Mathlib.Omega.{arith}
 use mathlib.Core.Path.{◌≡◌, refl, sym, ap, ◌∙◌}
-use mathlib.Core.Bool.{Bool, true, false, cond, not, and-true, and-false}
-use lib.Dec.{ltb}
-use borrow.Author.Tests.{le-leb, lt-leb}
+use mathlib.Core.Bool.{Bool, true, false, cond, not, ◌&&◌}
+use lib.Dec.{leb}
 use Rattle.std.specs.Prelude.{Ok, Err}
 use Rattle.types.specs.declared.kind.Kind.{Kind}
 use Rattle.types.specs.declared.kind.NoKind.{NoKind}
@@ -35,19 +34,9 @@ module _ (k : Kind) {r : Rules} (e : r ≡ rules_of (Ok k)) (Z c d : ℕ) where
   unfolding rules_of
   names_is = ap (λ (x : Rules). x.host) e
 
-  pub too_large : r.fourth < d → false ≡ are_numbers (Ok k) Z c d
-  too_large l = rw (numbers_by_rules (Ok k) (known k) Z c d, lt-leb d (most_fourth (Ok k)) (rw (← most_is) l), and-false)
-
-  module _ (l : d ≤ r.fourth) where
-    third : {t : Bool} → r.host ≡ t → are_numbers (Ok k) Z c d ≡ cond t (is_host c) (is_entry Z c)
-    third q = rw (numbers_by_rules (Ok k) (known k) Z c d, le-leb d (most_fourth (Ok k)) (rw (← most_is) l), and-true, sym names_is ∙ q)
-
-    pub is_host_lem : r.host ≡ true → ltb c 16 ≡ are_numbers (Ok k) Z c d
-    unfolding is_host
-    is_host_lem q = sym (third q)
-
-    pub is_entry_lem : r.host ≡ false → is_entry Z c ≡ are_numbers (Ok k) Z c d
-    is_entry_lem q = sym (third q)
+  -- t is the test of the third number
+  pub numbers_are : {t : Bool} → t ≡ cond r.host (is_host c) (is_entry Z c) → are_numbers (Ok k) Z c d ≡ (t && leb d r.fourth)
+  numbers_are q = numbers_by_rules (Ok k) (known k) Z c d ∙ rw (← names_is, ← most_is, ← q)
 
 -- ---- a step s
 

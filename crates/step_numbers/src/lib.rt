@@ -15,12 +15,17 @@ use types::step::Step;
 
 pub mod acting;
 
+// A shard has so many configurations. Hosts are 0 to 15.
+const CONFIGURATIONS: u64 = 8;
+
+const HOSTS: u64 = 16;
+
 // Whether a shard and an index are in range.
 #[tactic(auto, unfolding(crate::specs::StepRanges::is_index_of))]
 pub fn is_index_of(shards: usize, shard: u64, index: u64) -> bool
     ensures { result ≡ is_index_of shards shard index }
 {
-    shard < shards as u64 && 1 <= index && index <= 8
+    shard < shards as u64 && 1 <= index && index <= CONFIGURATIONS
 }
 
 // Whether the third and fourth number suit a kind: the third is a host or an entry, the fourth is at most the kind's largest, 0 where it is not used.
@@ -28,13 +33,12 @@ pub fn are_numbers(kind: Kind, shards: usize, c: u64, d: u64) -> bool
     ensures { result ≡ are_numbers (Ok kind) shards c d }
 {
     let rules = kind.rules();
-    if rules.fourth < d {
-        return false;
-    }
-    if rules.host {
-        return c < 16;
-    }
-    wellformed_entries::entry::is_entry(shards, c)
+    let third = if rules.host {
+        c < HOSTS
+    } else {
+        wellformed_entries::entry::is_entry(shards, c)
+    };
+    third && d <= rules.fourth
 }
 
 // The kind of a step whose kind, shard and index are in range where there are `shards` shards, or the rejection (3, 4 or 7).

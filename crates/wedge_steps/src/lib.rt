@@ -1,5 +1,5 @@
-// The step that makes a replica immutable. No entry point: the state is known to be well-formed, and the step's shard and index to be in range. The third
-// and the fourth number are tested here (7).
+// The step that makes a replica immutable. No entry point: the state is known to be well-formed, and the step's shard and index to be in range. The
+// third and the fourth number are tested here (7).
 
 #![tactic(auto)]
 

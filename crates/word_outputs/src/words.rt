@@ -15,6 +15,7 @@ pub const REPORT_WORDS: usize = 4;
 pub const STEP_WORDS: usize = 6;
 
 // How a replay stopped, as a word: ended 0, spent 1, damaged 2.
+#[tactic(auto, unfolding(model::specs::Results::stop_code))]
 fn stop_word(stop: Stop) -> u64
     ensures { result ≡ stop_code stop }
 {
@@ -40,6 +41,7 @@ pub fn put_report(out: &mut [u64], report: Report)
 }
 
 // The report of a replay, and 0 or the number of the damage; or the rejection, and no word.
+#[tactic(auto, unfolding(model::specs::Results::report_number, model::specs::Results::stop_number))]
 pub fn put_replay(out: &mut [u64], answer: Result<Report, Rejection>) -> u64
     requires { 4 ≤ length out.old }
     ensures value { result ≡ report_number answer }

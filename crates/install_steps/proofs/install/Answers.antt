@@ -71,7 +71,8 @@ is_newest_wedged-requires c = first_ready c.requires.ready
 pub returns-then-not-is_newest_wedged : goal.returns-then-not-is_newest_wedged
 returns-then-not-is_newest_wedged c =
     let e = tested (Ok Install) c.requires _ _ c.are_numbers.ensures c.if-not-are_numbers.false in
-    let t = not_wedged c.requires.ready _ _ e c.in_ok-p.ensures.value c.if-state-p.false c.is_issue_for.ensures c.if-not-is_issue_for.false c.issue_index.ensures
+    let t = not_wedged c.requires.ready _ _ e c.in_ok-p.ensures.value c.if-state-p.false
+    c.is_issue_for.ensures c.if-not-is_issue_for.false c.issue_index.ensures
     (rw c.head.ensures at c.if-issue_index-state.false) c.is_newest_wedged.ensures c.if-not-is_newest_wedged.true in
     record { value = t.0; state_after = t.1 }
 

@@ -16,6 +16,3 @@ pub step_on-requires : goal.step_on-requires
 step_on-requires c =
     let n = count_passed _ (sym c.in_ok-shards.was ∙ c.shard_count.ensures) in
     record { count = n.0; several = n.1 }
-
-pub returns : goal.returns
-returns c = record { value = c.step_on.ensures.value; state_after = c.step_on.ensures.state_after }

@@ -9,15 +9,3 @@ returns-in_err-kind c =
     let t = rejects_early c.args.state.now c.args.s (record { count = c.requires.1; several = c.requires.0.several }) _
     c.in_err-kind.ensures.value in
     rw (p.1, p.2) (record { value = t.0; state_after = t.1 })
-
-pub act-requires : goal.act-requires
-act-requires c =
-    record {
-      state = c.requires.0;
-      count = c.requires.1;
-      kind = c.in_ok-kind.ensures.kind;
-      range = c.in_ok-kind.ensures.value;
-    }
-
-pub returns : goal.returns
-returns c = record { value = c.act.ensures.value; state_after = c.act.ensures.state_after }

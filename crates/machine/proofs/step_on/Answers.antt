@@ -34,6 +34,3 @@ act-requires c =
       kind = c.in_ok-kind.ensures.kind;
       range = c.in_ok-kind.ensures.value;
     }
-
-pub returns : goal.returns
-returns c = record { value = c.act.ensures.value; state_after = c.act.ensures.state_after }

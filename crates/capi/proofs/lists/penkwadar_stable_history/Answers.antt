@@ -14,5 +14,5 @@ returns-then-count-lt1 c =
 pub returns : goal.returns
 unfolding history_answer entries_after entry_count_after listing
 returns c =
-    let t = counted _ _ _ _ _ c.if-count-lt1.false (c.put_listing.ensures.value ∙ c.stable_history-listing.ensures.result_value) c.stable_history-listing.ensures.out_after (c.put_listing.ensures.out_after ∙ listing_word_lem _ _ _ c.stable_history-listing.ensures.value) in
+    let t = counted _ _ _ _ _ c.if-count-lt1.false (c.put_count.ensures.value ∙ c.stable_history.ensures.result_value) c.stable_history.ensures.out_after (c.put_count.ensures.out_after ∙ listing_word_lem _ _ _ c.stable_history.ensures.value) in
     record { value = t.0; out_after = t.1.0; count_after = t.1.1 }

@@ -5,7 +5,7 @@ use lib.ListN.{length}
 use Rattle.model.specs.Log.{step_of}
 use Rattle.model.specs.Writer.{step_bytes, write_rejection, writing}
 use Rattle.word_outputs.specs.StepOutputs.{write_answer, out_after, byte_count_after}
-use Rattle.capi.proofs.Counts.{no_word, counted, writing_word_lem}
+use Rattle.capi.proofs.Counts.{no_word, counted, count_written}
 use Rattle.capi.proofs.steps.penkwadar_write_step.Goals as goal
 
 pub returns-then-count-lt1 : goal.returns-then-count-lt1
@@ -19,6 +19,6 @@ unfolding write_answer out_after byte_count_after step_of writing
 returns c =
     let a = c.args in
     let s = step_of a.kind (a.a ∷ a.b ∷ a.c ∷ a.d ∷ []) in
-    let word = writing_word_lem a.count.now (write_rejection a.out.now a.at s) (length (step_bytes s)) c.write_step-writing.ensures.value in
-    let t = counted _ _ _ _ _ c.if-count-lt1.false (c.put_writing.ensures.value ∙ c.write_step-writing.ensures.result_value) c.write_step-writing.ensures.out_after (c.put_writing.ensures.out_after ∙ word) in
+    let word = count_written a.count.now (write_rejection a.out.now a.at s) (length (step_bytes s)) c.write_step.ensures.value in
+    let t = counted _ _ _ _ _ c.if-count-lt1.false (c.put_count.ensures.value ∙ c.write_step.ensures.result_value) c.write_step.ensures.out_after (c.put_count.ensures.out_after ∙ word) in
     record { value = t.0; out_after = t.1.0; count_after = t.1.1 }
