@@ -24,19 +24,19 @@ use Rattle.word_outputs.specs.Replays.{report_words, replay_answer, state_after,
 module _ (w log : List ℕ) (budget : ℕ) where
   made : {y : Report} → Ok y ≡ report w log budget → eqb (replay_rejection w) 0 ≡ true
   unfolding report answered
-  made {y} p = go (eqb (replay_rejection w) 0) p
+  made {y} p = go (eqb (replay_rejection w) 0) _ _ p
     where
-      go : (t : Bool) {z : Report} {x : Rejection} → Ok y ≡ cond t (Ok z) (Err x) → t ≡ true
-      go true f = refl
-      go false f = absurd (ok_err f)
+      go : (t : Bool) (z : Report) (x : Rejection) → Ok y ≡ cond t (Ok z) (Err x) → t ≡ true
+      go true z x f = refl
+      go false z x f = absurd (ok_err f)
 
   not_made : {y : Rejection} → Err y ≡ report w log budget → eqb (replay_rejection w) 0 ≡ false
   unfolding report answered
-  not_made {y} p = go (eqb (replay_rejection w) 0) p
+  not_made {y} p = go (eqb (replay_rejection w) 0) _ _ p
     where
-      go : (t : Bool) {z : Report} {x : Rejection} → Err y ≡ cond t (Ok z) (Err x) → t ≡ false
-      go true f = absurd (err_ok f)
-      go false f = refl
+      go : (t : Bool) (z : Report) (x : Rejection) → Err y ≡ cond t (Ok z) (Err x) → t ≡ false
+      go true z x f = absurd (err_ok f)
+      go false z x f = refl
 
   -- its words
   words_told : {y : Report} → Told (Ok y) w log budget → words_of y ≡ report_words w log budget

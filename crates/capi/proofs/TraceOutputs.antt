@@ -1,7 +1,7 @@
 -- A trace that is copied to an output: with too short an output, and from what the trace inside answers.
 -- Assumes nothing.
 use Prim.Native.Nat.{ℕ, ◌-◌, ◌≤◌, ◌<◌}
-use mathlib.Core.Path.{◌≡◌, refl, ap, ◌∙◌}
+use mathlib.Core.Path.{◌≡◌, refl, sym, ap, ◌∙◌}
 use mathlib.Core.Bool.{Bool, true, false, cond}
 use mathlib.Core.List.{List, [], ◌∷◌, ◌++◌}
 use lib.Dec.{leb, ltb, eqb}
@@ -11,14 +11,13 @@ use borrow.Author.Tests.{le-leb, lt-leb}
 use Rattle.std.specs.Prelude.{Ok, Err}
 use Rattle.types.specs.declared.rejection.Rejection.{Rejection}
 use Rattle.types.specs.declared.rejection.Rejection.TheVariants.{OutputLength}
-use Rattle.types.specs.Rejections.{Written, numbered, answered, answer_number}
+use Rattle.types.specs.Rejections.{Written, rejection_number, numbered, answered, answer_number}
 use Rattle.types.proofs.Rejections.{answered_number}
 use Rattle.model.specs.Checks.{first_of, ◌or_else◌}
 use Rattle.model.proofs.Results.{first_below}
 use Rattle.stable_entries.specs.Listing.{listing_of, after_listing_of}
 use Rattle.stable_entries.proofs.Listings.{rejects}
 use Rattle.histories.specs.Traces.{trace_of, trace_rejection, traced}
-use Rattle.histories.proofs.TraceAnswers.{no_trace}
 use Rattle.histories.specs.NamedReplicas.{replica_checks}
 use Rattle.word_outputs.specs.WordOutputs.{count_word}
 use Rattle.word_outputs.specs.TraceOutputs.{boxes_rejection, boxes_copied, boxes_left, trace_answer, boxes_after, box_count_after}
@@ -42,13 +41,13 @@ module _ (w : List ℕ) (z i h : ℕ) (out : List ℕ) where
   no_room l = rejects OutputLength boxes out (rw (lt-leb 7 (length out) l))
 
   module _ (room : 7 ≤ length out) where
-    pub refused : {r : Rejection} → Err r ≡ traced w z i h → Copies (Err r) out
+    pub refused : {r : Rejection} → rejection_number r ≡ trace_rejection w z i h → Copies (Err r) out
     unfolding boxes_copied boxes_left boxes_rejection
-    refused {r} e = rejects r boxes out (rw (le-leb 7 (length out) room) (no_trace w z i h e))
+    refused {r} n = rejects r boxes out (rw (le-leb 7 (length out) room) (sym n))
 
-    pub copied : {l : List ℕ} → (trace_rejection w z i h ≡ 0) × (l ≡ boxes) → Copies (Ok (length l)) (l ++ drop (length l) out)
-    unfolding boxes_copied boxes_left boxes_rejection listing_of after_listing_of answered
-    copied p = (rw (le-leb 7 (length out) room, p.0, p.1), rw (le-leb 7 (length out) room, p.0, p.1))
+    pub copied : 0 ≡ trace_rejection w z i h → {l : List ℕ} → l ≡ traced w z i h → Copies (Ok (length l)) (l ++ drop (length l) out)
+    unfolding boxes_copied boxes_left boxes_rejection listing_of after_listing_of answered traced
+    copied n e = (rw (le-leb 7 (length out) room, ← n, e, ← n), rw (le-leb 7 (length out) room, ← n, e, ← n))
 
   below : ltb (boxes_rejection w z i h out) 25 ≡ true
   unfolding boxes_rejection trace_rejection replica_checks first_of

@@ -2,6 +2,7 @@
 ghost use Rattle.std.specs.Prelude.{◌≡◌};
 ghost use Rattle.word_outputs.specs.ListOutputs.{history_answer, entries_after, entry_count_after, prefix_answer, prefix_after, prefix_count_after};
 
+use types::rejection::Rejection;
 use word_outputs::words::put_count;
 
 // Copies a zone's stable history to an output: 0 and the count of its entries, or the rejection and nothing written.
@@ -17,7 +18,7 @@ pub extern "C" fn penkwadar_stable_history(
     ensures count_after { count.new ≡ entry_count_after state.now zone out.old count.old }
 {
     if count.len() < 1 {
-        return 8;
+        return u64::from(Rejection::OutputLength);
     }
     put_count(count, histories::history::stable_history(state, zone, out))
 }
@@ -37,7 +38,7 @@ pub extern "C" fn penkwadar_stable_prefix(
     ensures count_after { count.new ≡ prefix_count_after state.now zone index host out.old count.old }
 {
     if count.len() < 1 {
-        return 8;
+        return u64::from(Rejection::OutputLength);
     }
     put_count(count, histories::prefix::stable_prefix(state, zone, index, host, out))
 }

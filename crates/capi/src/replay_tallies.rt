@@ -2,6 +2,7 @@
 ghost use Rattle.std.specs.Prelude.{◌≡◌};
 ghost use Rattle.word_outputs.specs.TallyOutputs.{tally_answer, tally_state_after, tally_report_after, tally_words_after};
 
+use types::rejection::Rejection;
 use tallies::tallied::replay_by_value;
 use word_outputs::tally_words::{put_tally, tally_in};
 use word_outputs::words::{REPORT_WORDS, put_replay};
@@ -24,10 +25,10 @@ pub extern "C" fn penkwadar_replay_tally(
     ensures tally_after { tally.new ≡ tally_words_after state.old log.now budget report.old tally.old }
 {
     if report.len() < REPORT_WORDS {
-        return 8;
+        return u64::from(Rejection::OutputLength);
     }
     if tally.len() < TALLY_WORDS {
-        return 8;
+        return u64::from(Rejection::OutputLength);
     }
     let before = tally_in(tally);
     let r = replay_by_value(state, log, budget, before);

@@ -2,6 +2,7 @@
 ghost use Rattle.std.specs.Prelude.{◌≡◌};
 ghost use Rattle.word_outputs.specs.Spreadsheets.{csv_answer, csv_after, csv_length_after};
 
+use types::rejection::Rejection;
 use word_outputs::words::put_count;
 
 // Writes every zone's stable history as comma-separated text: 0 and its length, or the rejection and nothing written.
@@ -12,7 +13,7 @@ pub extern "C" fn penkwadar_csv(state: &[u64], out: &mut [u8], count: &mut [u64]
     ensures count_after { count.new ≡ csv_length_after state.now out.old count.old }
 {
     if count.len() < 1 {
-        return 8;
+        return u64::from(Rejection::OutputLength);
     }
     put_count(count, records::csv(state, out))
 }

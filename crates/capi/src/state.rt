@@ -10,6 +10,7 @@ use types::rejection::number_of;
 use types::step::Step;
 
 // The length of a state of so many zones, 0 where no state has so many.
+#[tactic(auto, unfolding(word_outputs::specs::State::state_words))]
 #[unsafe(no_mangle)]
 pub extern "C" fn penkwadar_state_words(zones: u64) -> u64
     ensures { result ≡ state_words zones }

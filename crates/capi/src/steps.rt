@@ -3,6 +3,7 @@ ghost use Rattle.std.specs.Prelude.{◌≡◌, [], ◌∷◌};
 ghost use Rattle.model.specs.Log.{step_of};
 ghost use Rattle.word_outputs.specs.StepOutputs.{read_answer, step_after, write_answer, out_after, byte_count_after};
 
+use types::rejection::Rejection;
 use types::step::Step;
 use word_outputs::words::{STEP_WORDS, put_count, put_step};
 
@@ -22,7 +23,7 @@ pub extern "C" fn penkwadar_read_step(log: &[u8], at: usize, step: &mut [u64]) -
     ensures step_after { step.new ≡ step_after log.now at step.old }
 {
     if step.len() < STEP_WORDS {
-        return 8;
+        return u64::from(Rejection::OutputLength);
     }
     match quick_reader::read_step(log, at) {
         Ok(Some(reading)) => {
@@ -54,7 +55,7 @@ pub extern "C" fn penkwadar_write_step(
     ensures count_after { count.new ≡ byte_count_after out.old at (step_of kind (a ∷ b ∷ c ∷ d ∷ [])) count.old }
 {
     if count.len() < 1 {
-        return 8;
+        return u64::from(Rejection::OutputLength);
     }
     put_count(count, log_writer::write_step(out, at, Step { kind, a, b, c, d }))
 }

@@ -2,6 +2,7 @@
 ghost use Rattle.std.specs.Prelude.{◌≡◌};
 ghost use Rattle.word_outputs.specs.TraceOutputs.{boxes_copied, boxes_left, trace_answer, boxes_after, box_count_after};
 
+use arrayvec::ArrayVec;
 use histories::trace::{MOST_HOSTS, trace};
 use types::rejection::Rejection;
 use word_outputs::words::put_count;
@@ -21,7 +22,7 @@ pub extern "C" fn penkwadar_trace(
     ensures count_after { count.new ≡ box_count_after state.now zone index host out.old count.old }
 {
     if count.len() < 1 {
-        return 8;
+        return u64::from(Rejection::OutputLength);
     }
     put_count(count, copy_boxes(state, zone, index, host, out))
 }
@@ -40,7 +41,8 @@ fn copy_boxes(
     if out.len() < MOST_HOSTS {
         return Err(Rejection::OutputLength);
     }
-    let boxes = trace(state, zone, index, host)?;
+    let mut boxes = ArrayVec::new();
+    trace(state, zone, index, host, &mut boxes)?;
     out[..boxes.len()].copy_from_slice(&boxes);
     Ok(boxes.len())
 }

@@ -2,6 +2,7 @@
 ghost use Rattle.std.specs.Prelude.{◌≡◌};
 ghost use Rattle.word_outputs.specs.Transcripts.{text_answer, text_after, length_after};
 
+use types::rejection::Rejection;
 use word_outputs::words::put_count;
 
 // Writes the program's whole text for a log: 0 and its length, or the rejection and nothing written.
@@ -12,7 +13,7 @@ pub extern "C" fn penkwadar_transcript(log: &[u8], out: &mut [u8], count: &mut [
     ensures count_after { count.new ≡ length_after log.now out.old count.old }
 {
     if count.len() < 1 {
-        return 8;
+        return u64::from(Rejection::OutputLength);
     }
     put_count(count, transcript::transcript(log, out))
 }

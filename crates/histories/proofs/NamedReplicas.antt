@@ -107,7 +107,7 @@ module _ (w : List ℕ) (z i h : ℕ) where
         found_as =
             rw (le-leb 2 Z two, name_is e, f) (chosen (is_installed w z (i - 1)) (has_member (members w z (i - 1)) h) place)
 
-  pub below : ltb (first_of (replica_checks w z i h)) 25 ≡ true
+  below : ltb (first_of (replica_checks w z i h)) 25 ≡ true
   unfolding replica_checks
   below = first_below (replica_checks w z i h) refl
 

@@ -8,34 +8,27 @@ use lib.ListN.{length, get_or}
 use borrow.Author.Tests.{eq-eqb, ne_eqb}
 use Rattle.std.specs.Prelude.{Ok, Err}
 use Rattle.types.specs.declared.rejection.Rejection.{Rejection}
-use Rattle.types.specs.Rejections.{rejection_number, answered}
-use Rattle.types.proofs.Rejections.{rejected_answer}
+use Rattle.types.specs.Rejections.{rejection_number}
+use Rattle.types.proofs.Rejections.{number_not_0}
 use Rattle.model.specs.Replicas.{is_pending}
 use Rattle.model.specs.Layout.{replica_at}
 use Rattle.model.specs.Configuration.{configuration, replica_of, replica_in}
 use Rattle.types.specs.ReplicaPlace.{replica_place}
 use Rattle.model.proofs.Fields.{pending_word}
 use Rattle.lookup.proofs.FoundReplicas.{member_placed}
-use Rattle.arrayvec.specs.ArrayVec.{ArrayVec}
 use Rattle.histories.specs.NamedReplicas.{found_named}
 use Rattle.histories.specs.Traces.{sources_of, trace_of, trace_rejection, traced, Started}
-use Rattle.histories.proofs.NamedReplicas.{IsNamed, is_named, below, found_at, found_not}
-use Rattle.histories.proofs.Answered.{answered_ok, answered_err}
+use Rattle.histories.proofs.NamedReplicas.{IsNamed, is_named, found_at, found_not}
 use Rattle.histories.proofs.Traces.{started}
 
 module _ (w : List ℕ) (z i h : ℕ) where
-  -- what an answer tells
-  pub no_trace : {r : Rejection} → Err r ≡ traced w z i h → trace_rejection w z i h ≡ rejection_number r
-  unfolding traced trace_rejection
-  no_trace e = answered_err _ _ (below w z i h) e
+  -- what is told: the number of the answer, and hosts
+  abbrev Tells : ℕ → List ℕ → Type 0
+  Tells n l = (n ≡ trace_rejection w z i h) × (l ≡ traced w z i h)
 
-  pub its_trace : {t : ArrayVec ℕ} → Ok t ≡ traced w z i h → (trace_rejection w z i h ≡ 0) × (t.items ≡ trace_of w z (i - 1) h)
-  unfolding traced
-  its_trace e = let p = answered_ok _ _ e in (p.0, ap (λ (t : ArrayVec ℕ). t.items) p.1)
-
-  pub rejected : {r : Rejection} → Err r ≡ found_named w z i h → Err r ≡ traced w z i h
+  pub rejected : {r : Rejection} → Err r ≡ found_named w z i h → {l : List ℕ} → l ≡ [] → Tells (rejection_number r) l
   unfolding traced trace_rejection
-  rejected {r} e = rw (found_not w z i h e) (rejected_answer r (record { items = trace_of w z (i - 1) h }))
+  rejected {r} e q = let n = found_not w z i h e in (sym n, rw (n, number_not_0 r) q)
 
   module _ {p : ℕ} (e : Ok p ≡ found_named w z i h) where
     at : IsNamed w z i h
@@ -55,12 +48,11 @@ module _ (w : List ℕ) (z i h : ℕ) where
     unfolding replica_in replica_of
     mode_is = ap (λ (p : ℕ). is_pending (replica_at w p)) (sym place_is) ∙ pending_word w p
 
-    -- the hosts of a trace are answered
-    accepted : {t : ArrayVec ℕ} → t.items ≡ trace_of w z (i - 1) h → Ok t ≡ traced w z i h
-    unfolding traced trace_rejection answered
-    accepted q = rw ((found_at w z i h e).0, ← q)
+    accepted : {l : List ℕ} → l ≡ trace_of w z (i - 1) h → Tells 0 l
+    unfolding traced trace_rejection
+    accepted q = let n = (found_at w z i h e).0 in (sym n, rw n q)
 
-    pub waits : get_or w p 0 ≡ 1 → {t : ArrayVec ℕ} → t.items ≡ [] → Ok t ≡ traced w z i h
+    pub waits : get_or w p 0 ≡ 1 → {l : List ℕ} → l ≡ [] → Tells 0 l
     unfolding trace_of
     waits m q = accepted (rw (mode_is, eq-eqb (get_or w p 0) 1 m) q)
 
@@ -71,6 +63,6 @@ module _ (w : List ℕ) (z i h : ℕ) where
       pub starts : Started w z (i - 1) h
       starts = started at runs
 
-      pub lists : {t : ArrayVec ℕ} → t.items ≡ sources_of w z (i - 1) h → Ok t ≡ traced w z i h
+      pub lists : {l : List ℕ} → l ≡ sources_of w z (i - 1) h → Tells 0 l
       unfolding trace_of
       lists q = accepted (rw runs q)

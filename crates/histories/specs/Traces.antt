@@ -1,14 +1,11 @@
 -- Request A3: "a trace that starts at a seat and returns the boxes, at most seven, back to index 1, nearest first".
-use Rattle.std.specs.Prelude.{ℕ, zero, suc, ◌-◌, ◌≡◌, true, false, cond, List, [], ◌∷◌, Result}
+use Rattle.std.specs.Prelude.{ℕ, zero, suc, ◌-◌, ◌≡◌, true, false, cond, List, [], ◌∷◌, eqb}
 use Rattle.model.specs.Checks.{first_of}
 use Rattle.types.specs.Members.{has_member}
 use Rattle.model.specs.Replicas.{is_pending}
 use Rattle.model.specs.Layout.{is_installed, members}
 use Rattle.model.specs.Configuration.{replica_in}
 use Rattle.lookup.specs.Ready.{ReadyHost}
-use Rattle.arrayvec.specs.ArrayVec.{ArrayVec}
-use Rattle.types.specs.declared.rejection.Rejection.{Rejection}
-use Rattle.types.specs.Rejections.{answered}
 use Rattle.histories.specs.NamedReplicas.{replica_checks}
 
 -- the host from which the replica of host h in configuration j began: its word 3 is "the source box + 1"
@@ -32,9 +29,9 @@ trace_rejection w z i h = first_of (replica_checks w z i h)
 abbrev pub most_hosts : ℕ
 most_hosts = 7
 
--- what the function answers for index i: the hosts of the trace from configuration i − 1 on, or the rejection
-unfoldable pub traced : List ℕ → ℕ → ℕ → ℕ → Result (ArrayVec ℕ) Rejection
-traced w z i h = answered (trace_rejection w z i h) (record { items = trace_of w z (i - 1) h })
+-- the hosts that the function tells for index i: those of the trace from configuration i − 1 on, or none at a rejection
+unfoldable pub traced : List ℕ → ℕ → ℕ → ℕ → List ℕ
+traced w z i h = cond (eqb (trace_rejection w z i h) 0) (trace_of w z (i - 1) h) []
 
 -- where the function inside begins: a member's replica that is not pending, in a well-formed state
 pub record Started (w : List ℕ) (z j h : ℕ) : Type 0 where

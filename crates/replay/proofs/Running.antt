@@ -4,12 +4,17 @@ use Rattle.model.specs.Log.{one_step}
 use Prim.Native.Nat.{ℕ, ◌+◌, ◌<◌}
 use native.Mathlib.Nat.{add-zero}
 use mathlib.Core.Path.{◌≡◌, refl, sym, ap, subst, ◌∙◌}
-use mathlib.Core.Bool.{cond}
+use mathlib.Core.Bool.{Bool, true, false, cond, not}
 use mathlib.Core.List.{List}
 use lib.Dec.{eqb}
 use lib.ListN.{length}
 use borrow.Author.Tests.{eq-eqb, ne_eqb}
 use Rattle.types.specs.declared.step.Step.{Step}
+use mir.Val.{bool_byte}
+use Rattle.std.specs.Prelude.{Result, is_err}
+use Rattle.types.specs.declared.rejection.Rejection.{Rejection}
+use Rattle.types.specs.Rejections.{answer_number}
+use Rattle.types.proofs.Rejections.{error_number}
 use Rattle.model.specs.Layout.{shards_of}
 use Rattle.model.specs.Steps.{rejection, after}
 use Rattle.model.specs.Log.{read_at}
@@ -70,3 +75,12 @@ module _ {w₀ log : List ℕ} {budget : ℕ} {w : List ℕ} {at tried rejected 
       rw (q, c)
       (subst (λ (r : ℕ). Running w₀ log budget (after w s) next (tried + 1) r)
       (rw (eq-eqb (rejection w s) 0 (sym p ∙ z)) (add-zero rejected)) stepped)
+
+-- an error is one more
+by_test : (b : Bool) → bool_byte b ≡ cond (not b) 0 1
+by_test true = refl
+by_test false = refl
+
+pub one_more : (n : ℕ) {A : Type 0} (r : Result A Rejection) {b : Bool} {k : ℕ} → b ≡ is_err r → k ≡ bool_byte b
+    → n + k ≡ n + cond (eqb (answer_number r) 0) 0 1
+one_more n r {b} e f = ap (λ (m : ℕ). n + m) (f ∙ by_test b) ∙ rw (error_number r, e)

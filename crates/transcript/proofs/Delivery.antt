@@ -2,20 +2,21 @@
 -- Assumes nothing.
 use Rattle.std.specs.Prelude.{Ok, Err}
 use Rattle.types.specs.declared.rejection.Rejection.TheVariants.{OutputLength}
-use Rattle.types.specs.Rejections.{Written, answer_count, answer_number}
+use Rattle.types.specs.Rejections.{Written, numbered, answered, answer_count, answer_number}
 use Prim.Native.Nat.{ℕ, ◌+◌, ◌≤◌, ◌<◌}
 use native.Mathlib.Nat.{zero-add}
 use native.Mathlib.Omega.{arith}
 use mathlib.Core.Path.{◌≡◌, refl, ◌∙◌}
-use mathlib.Core.List.{List, ◌++◌}
+use mathlib.Core.List.{List, [], ◌∷◌, ◌++◌}
 use native.Mathlib.Decide.{dec_le}
+use lib.Dec.{leb}
 use lib.ListN.{length, take, drop, replicate, length-replicate, length-append, length-drop}
-use lib.Seq.{sets, sets-eq, take_at, length-take-le, length-sets}
+use lib.Seq.{sets, sets-eq, take_at, length-sets}
 use borrow.Author.Tests.{le-leb, lt-leb}
-use Rattle.model.specs.Checks.{first_of}
+use Rattle.model.specs.Checks.{first_of, ◌or_else◌}
 use Rattle.model.specs.Results.{count_beside}
 use Rattle.model.specs.Transcript.{transcript}
-use Rattle.model.proofs.Results.{counted}
+use Rattle.model.proofs.Results.{first_below, counted}
 use Rattle.transcript.specs.LargestText.{text_most}
 use Rattle.transcript.proofs.LargestText.{text_most_lem}
 use Rattle.transcript.specs.Text.{text_rejection, text_count, text_writing, after_text}
@@ -32,13 +33,14 @@ pub written_first : (space text : List ℕ) → length text ≤ length space →
 written_first space text h =
     rw (sets-eq text space 0 (omega (arith, h))) (take_at text (drop (0 + length text) space) (length text) refl)
 
-module _ (log : List ℕ) {last : List ℕ} {n : ℕ}
-    (e : (n ≡ length (transcript log)) × (last ≡ sets (replicate {A = ℕ} text_most 0) 0 (transcript log))) where
+-- a text that was written to a space
+module _ (log : List ℕ) {last : List ℕ} {n : ℕ} (e : n ≡ length (transcript log))
+    (f : last ≡ sets (replicate {A = ℕ} text_most 0) 0 (transcript log)) where
   pub written_room : n ≤ length last
-  written_room = rw (e.1, length-sets (replicate {A = ℕ} text_most 0) 0 (transcript log), e.0) (space_fits log)
+  written_room = rw (f, length-sets (replicate {A = ℕ} text_most 0) 0 (transcript log), e) (space_fits log)
 
   pub written_text : take n last ≡ transcript log
-  written_text = rw (e.0, e.1) (written_first (replicate {A = ℕ} text_most 0) (transcript log) (space_fits log))
+  written_text = rw (e, f) (written_first (replicate {A = ℕ} text_most 0) (transcript log) (space_fits log))
 
 -- ---- what is answered and left
 
@@ -55,16 +57,25 @@ module _ (out text : List ℕ) where
   pub told : {r : Written} {v : List ℕ} → (r ≡ text_writing out text) × (v ≡ after_text out text)
       → (answer_number r ≡ text_rejection out text)
       × ((answer_count r ≡ text_count out text) × ((r ≡ text_writing out text) × (v ≡ after_text out text)))
-  unfolding text_writing text_count
-  told e = let c = counted (text_rejection out text) text e.0 in (c.0, (c.1, e))
+  unfolding text_writing text_count text_rejection
+  told e = let c = counted (text_rejection out text) text (first_below (leb (length text) (length out) or_else 8 ∷ []) refl) e.0 in (c.0, (c.1, e))
 
   -- a text that was written to the start of an output with room for it
   pub written : length text ≤ length out → {n : ℕ} {v : List ℕ} → (n ≡ length text) × (v ≡ sets out 0 text)
       → (Ok n ≡ text_writing out text) × (v ≡ after_text out text)
-  unfolding text_writing after_text
+  unfolding text_writing answered after_text
   written l e =
       let f = fits l in
       (rw (f, e.0), e.1 ∙ sets-eq text out 0 (omega (arith, l)) ∙ rw (f, zero-add (length text)))
+
+  -- a text that was handed over, or is too long
+  pub delivered : length text ≤ length out → (Ok (length text) ≡ text_writing out text) × (text ++ drop (length text) out ≡ after_text out text)
+  unfolding text_writing answered after_text
+  delivered l = let f = fits l in (rw f, rw f)
+
+  pub too_long : length out < length text → (Err OutputLength ≡ text_writing out text) × (out ≡ after_text out text)
+  unfolding text_writing answered numbered after_text
+  too_long l = let e = no_room l in (rw e, rw e)
 
   -- an output keeps its length
   pub text_kept : length (after_text out text) ≡ length out
@@ -84,20 +95,3 @@ module _ (out text : List ℕ) where
         | yes l ↦ omega (arith, l, rw (fits l) at e)
         | no l ↦ omega (arith, rw (no_room (omega (arith, l))) at e)
       ]
-
-module _ (out space : List ℕ) (n : ℕ) (h : n ≤ length space) where
-  long : length (take n space) ≡ n
-  long = length-take-le n space h
-
-  pub too_short_lem : length out < n → (Err OutputLength ≡ text_writing out (take n space)) × (out ≡ after_text out (take n space))
-  unfolding text_writing after_text
-  too_short_lem l =
-      let e = no_room out (take n space) (omega (arith, l, long)) in
-      (rw e, rw e)
-
-  pub delivered : n ≤ length out
-      → (Ok n ≡ text_writing out (take n space)) × (take n space ++ drop n out ≡ after_text out (take n space))
-  unfolding text_writing after_text
-  delivered l =
-      let f = fits out (take n space) (omega (arith, l, long)) in
-      (rw (f, long), rw (f, long))

@@ -7,15 +7,17 @@ use mathlib.Core.Path.{◌≡◌}
 use mathlib.Core.Bool.{Bool, true}
 use mathlib.Core.List.{List, [], ◌∷◌}
 use lib.ListN.{length, length-append}
+use Rattle.std.specs.Prelude.{Ok}
+use Rattle.types.specs.Rejections.{rejection_number}
 use Rattle.types.specs.declared.Report.{Report}
 use Rattle.types.specs.declared.Stop.{Stop}
-use Rattle.types.specs.declared.Stop.TheVariants.{Ended, Spent, Damaged, Rejected}
+use Rattle.types.specs.declared.Stop.TheVariants.{Ended, Spent, Damaged}
 use Rattle.types.specs.declared.step.Step.{Step}
 use Rattle.model.specs.Tests.{all_of}
 use Rattle.model.specs.Entries.{is_entry}
 use Rattle.model.specs.Steps.{rejection, after}
 use Rattle.model.specs.StableHistory.{stable_history}
-use Rattle.model.specs.Transcript.{decimal, spaced, spaced_all, step_lines, shard_line, stop_text, last_line}
+use Rattle.model.specs.Transcript.{decimal, spaced, spaced_all, step_lines, shard_line, stop_text, last_with, last_line}
 use Rattle.model.proofs.AllOf.{all_head, all_tail}
 use Rattle.model.proofs.Lengths.{length_of_shards}
 use Rattle.model.proofs.WellFormed.{WellFormed}
@@ -73,14 +75,13 @@ stop_width : (x : Stop) → LogStop x → length (stop_text x) ≤ 9
 unfolding stop_text
 stop_width Ended g = omega arith
 stop_width Spent g = omega arith
-stop_width (Damaged r) g = let number : length (spaced r) ≤ 2 = spaced_width 0 r (omega arith) in omega arith
-stop_width (Rejected r) g = absurd g
+stop_width (Damaged r) g = let number : length (spaced (rejection_number r)) ≤ 2 = spaced_width 0 (rejection_number r) (omega arith) in omega arith
 
 -- counts of steps below 10 ^ (k + 1), of bytes below 10 ^ (m + 1)
 pub last_line_width :
     (k m : ℕ) (r : Report) → LogStop r.stop → r.tried < 10 ^ suc k → r.rejected < 10 ^ suc k → r.bytes < 10 ^ suc m
-    → length (last_line r) ≤ 16 + k + k + m
-unfolding last_line
+    → length (last_line (Ok r)) ≤ 16 + k + k + m
+unfolding last_line last_with
 last_line_width k m r g a b c =
     let stop : length (stop_text r.stop) ≤ 9 = stop_width r.stop g in
     let tried : length (spaced r.tried) ≤ k + 2 = spaced_width k r.tried a in

@@ -10,8 +10,9 @@ use mathlib.Core.Bool.{Bool, true, false, cond}
 use mathlib.Core.List.{List, [], ◌∷◌}
 use lib.ListN.{length, drop, length-drop}
 use Rattle.types.specs.declared.Stop.{Stop}
-use Rattle.types.specs.declared.Stop.TheVariants.{Ended, Spent, Damaged, Rejected as NotRun}
+use Rattle.types.specs.declared.Stop.TheVariants.{Ended, Spent, Damaged}
 use Rattle.types.specs.declared.step.Step.{Step}
+use Rattle.types.specs.Rejections.{rejection_number}
 use Rattle.model.specs.Log.{Log, read_step, with_step, stopped, is_empty, log_after, read_log}
 use Rattle.model.proofs.RoundTrip.{step_within}
 use Rattle.transcript.proofs.StepSizes.{Damage, KnownNumber, step_sized, step_damage}
@@ -25,8 +26,7 @@ KnownKinds (s ∷ ss) = KnownNumber s.kind × KnownKinds ss
 abbrev pub LogStop : Stop → Type 0
 LogStop Ended = Unit {0}
 LogStop Spent = Unit {0}
-LogStop (Damaged r) = Damage r
-LogStop (NotRun r) = ⊥
+LogStop (Damaged r) = Damage (rejection_number r)
 
 -- what a log of m bytes reads to
 pub record SizedLog (m : ℕ) (l : Log) : Type 0 where

@@ -7,6 +7,8 @@ use mathlib.Core.Bool.{Bool, true, false, cond}
 use mathlib.Core.List.{List, [], ◌∷◌}
 use lib.Dec.{eqb}
 use lib.ListN.{length}
+use Rattle.std.specs.Prelude.{Ok}
+use Rattle.types.specs.Rejections.{answered}
 use Rattle.types.specs.declared.step.Step.{Step}
 use Rattle.model.specs.Steps.{rejection, after}
 use Rattle.model.specs.Log.{read_log}
@@ -20,8 +22,8 @@ module _ {Z : ℕ} {w : List ℕ} (f : WellFormed Z w) (log : List ℕ) (budget 
   unfolding replayed
   formed_replayed = rw (replay_accepted f)
 
-  pub formed_report : report w log budget ≡ run_report w log budget
-  unfolding report run_report
+  pub formed_report : report w log budget ≡ Ok (run_report w log budget)
+  unfolding report answered run_report
   formed_report = rw (replay_accepted f)
 
   pub formed_after : WellFormed Z (after_replay w log budget)

@@ -1,72 +1,91 @@
--- The loop that tries the steps of a log and writes a line for each: its invariant, and its turns.
+-- The loop that tries the steps of a log and appends a line for each: its invariant, and its turns.
 -- Assumes nothing.
-use Rattle.model.specs.Log.{one_step}
-use Prim.Native.Nat.{ℕ, suc, ◌+◌, ◌-◌, ◌≤◌, ◌<◌}
+use Prim.Native.Nat.{ℕ, suc, ◌+◌, ◌-◌, ◌<◌}
 use native.Mathlib.Omega.{arith}
-use mathlib.Core.Path.{◌≡◌, ◌∙◌}
-use mathlib.Core.List.{List, [], ◌++◌}
-use lib.ListN.{length, drop}
-use lib.Seq.{sets}
+use mathlib.Core.Path.{◌≡◌, refl, sym, ap, ◌∙◌}
+use mathlib.Core.Bool.{cond}
+use mathlib.Core.List.{List, [], ◌++◌, append-nil, append_assoc}
+use lib.Dec.{eqb}
+use lib.ListN.{length, drop, length-append}
 use Rattle.types.specs.declared.step.Step.{Step}
 use Rattle.types.specs.declared.Stop.{Stop}
 use Rattle.model.specs.Steps.{rejection, after}
-use Rattle.model.specs.Log.{read_at, read_log, stopped}
+use Rattle.model.specs.Log.{one_step, read_at, read_log, stopped}
 use Rattle.model.specs.Transcript.{step_lines, program_budget}
-use Rattle.replay.specs.Run.{after_run}
+use Rattle.model.proofs.Progress.{sets-append}
+use Rattle.lookup.specs.Ready.{Formed}
+use Rattle.replay.specs.Run.{report_of, run_report, after_run}
 use Rattle.replay.proofs.Rest.{reads_step, stops}
-use Rattle.replay.proofs.Running.{Running, start, turn_rejected, turn_accepted}
-use Rattle.model.proofs.Progress.{Progress, progress_first, progress_room, progress_next, progress_end}
-use Rattle.transcript.specs.declared.steps.Printed.{Printed}
-use Rattle.transcript.specs.Text.{step_line, run_lines, printed_as, printed, RunRoom}
+use Rattle.replay.proofs.Running.{Running, start, turned}
+use Rattle.decimal_text.specs.declared.text.Text.{Text}
+use Rattle.decimal_text.specs.Appended.{HasRoom, Appended}
+use Rattle.transcript.specs.Text.{step_line, run_lines}
 
 -- the lines of the steps that are still to be tried
 abbrev lines_left : List ℕ → List ℕ → ℕ → ℕ → List ℕ
 lines_left w log at tried = step_lines tried w (read_log (program_budget - tried) (drop at log)).steps
 
--- the run at one of its turns, and what was written of its lines
-pub record Printing (w₀ log out₀ w out : List ℕ) (at tried rejected end : ℕ) : Type 0 where
+-- the run at one of its turns, and what was appended of its lines
+pub record Printing (w₀ log : List ℕ) (first : Text) (w : List ℕ) (t : Text) (at tried rejected : ℕ) : Type 0 where
   pub running : Running w₀ log program_budget w at tried rejected
-  pub lines : Progress out₀ 0 (run_lines w₀ log) out end (lines_left w log at tried)
+  pub done : List ℕ
+  pub whole : run_lines w₀ log ≡ done ++ lines_left w log at tried
+  pub so_far : Appended first done t
 
-pub print_start : (w log out : List ℕ) → RunRoom w log out → Printing w log out w out 0 0 0 0
+pub print_start : (w log : List ℕ) (t : Text) → Formed w → Printing w log t w t 0 0 0
 unfolding run_lines
-print_start w log out r =
-    record { running = start w log program_budget r.formed; lines = progress_first out 0 (run_lines w log) (omega (arith, r.room)) }
+print_start w log t f =
+    record {
+      running = start w log program_budget f;
+      done = [];
+      whole = refl;
+      so_far = record { same_reference = refl; position = omega arith; kept = refl; written = refl };
+    }
 
-module _ {w₀ log out₀ w out : List ℕ} {at tried rejected end : ℕ} (x : Printing w₀ log out₀ w out at tried rejected end) where
-  module _ (s : Step) (next : ℕ) (h : tried < program_budget) (e : read_at log at ≡ one_step s next) where
+module _ {w₀ log : List ℕ} {first : Text} {w : List ℕ} {t : Text} {at tried rejected : ℕ} (x : Printing w₀ log first w t at tried rejected) where
+  module _ (s : Step) (next : ℕ) (h : tried < program_budget) (e : read_at log at ≡ one_step s next) (a : ℕ) (p : a ≡ rejection w s) where
     -- the line of the step is the next one
-    one_line : lines_left w log at tried ≡ step_line (tried + 1) s.kind (rejection w s) ++ lines_left (after w s) log next (tried + 1)
-    unfolding step_line step_lines
+    line : List ℕ
+    line = step_line (tried + 1) s.kind a
+
+    one_line : lines_left w log at tried ≡ line ++ lines_left (after w s) log next (tried + 1)
+    unfolding line step_line step_lines
     one_line =
         let one : tried + 1 ≡ suc tried = omega arith in
-        rw (reads_step log program_budget at tried s next h e, one)
+        rw (p, reads_step log program_budget at tried s next h e, one)
 
-    now_lines : (a : ℕ) → a ≡ rejection w s
-        → Progress out₀ 0 (run_lines w₀ log) out end (step_line (tried + 1) s.kind a ++ lines_left (after w s) log next (tried + 1))
-    now_lines a p = rw (p, ← one_line) x.lines
+    pub print_room : HasRoom first (run_lines w₀ log) → HasRoom t (step_line (tried + 1) s.kind a)
+    unfolding line
+    print_room r =
+        let all : run_lines w₀ log ≡ x.done ++ (line ++ lines_left (after w s) log next (tried + 1)) = x.whole ∙ ap (λ (l : List ℕ). x.done ++ l) one_line in
+        let parts : length (run_lines w₀ log) ≡ length x.done + (length line + length (lines_left (after w s) log next (tried + 1))) =
+        ap length all ∙ simp length-append in
+        record { room = omega (arith, x.so_far.position, x.so_far.kept, r.room, parts) }
 
-    pub print_room : (a : ℕ) → a ≡ rejection w s → end + length (step_line (tried + 1) s.kind a) ≤ length out
-    print_room a p = progress_room (step_line (tried + 1) s.kind a) (lines_left (after w s) log next (tried + 1)) (now_lines a p)
-
-    -- the step was tried and its line written
-    module _ (a : ℕ) {w' out' : List ℕ} {end' : ℕ} (p : (a ≡ rejection w s) × (w' ≡ after w s))
-        (q : (end' ≡ end + length (step_line (tried + 1) s.kind a)) × (out' ≡ sets out end (step_line (tried + 1) s.kind a))) where
-      left_lines : Progress out₀ 0 (run_lines w₀ log) out' end' (lines_left w' log next (tried + 1))
-      left_lines = rw p.1 (progress_next (step_line (tried + 1) s.kind a) (lines_left (after w s) log next (tried + 1)) (now_lines a p.0) q)
-
-      pub print_rejected : {k : ℕ} → (a ≡ 0 → ⊥) → k ≡ rejected + 1 → Printing w₀ log out₀ w' out' next (tried + 1) k end'
-      print_rejected n c = record { running = turn_rejected x.running s next h e a p.0 p.1 n c; lines = left_lines }
-
-      pub print_accepted : {k : ℕ} → a ≡ 0 → k ≡ rejected → Printing w₀ log out₀ w' out' next (tried + 1) k end'
-      print_accepted z c = record { running = turn_accepted x.running s next h e a p.0 p.1 z c; lines = left_lines }
+    -- the step was tried and its line appended
+    pub print_turn : {w' : List ℕ} {u : Text} {k : ℕ} → w' ≡ after w s → Appended t (step_line (tried + 1) s.kind a) u
+        → k ≡ rejected + cond (eqb a 0) 0 1 → Printing w₀ log first w' u next (tried + 1) k
+    unfolding line
+    print_turn q l c =
+        record {
+          running = turned x.running s next h e a p q c;
+          done = x.done ++ line;
+          whole = rw q
+              (x.whole ∙ ap (λ (l : List ℕ). x.done ++ l) one_line ∙ sym (append_assoc x.done line (lines_left (after w s) log next (tried + 1))));
+          so_far = record {
+            same_reference = l.same_reference ∙ x.so_far.same_reference;
+            position = simp length-append (omega (arith, x.so_far.position, l.position));
+            kept = l.kept ∙ x.so_far.kept;
+            written = l.written ∙ rw (x.so_far.written, x.so_far.position) (sym (sets-append x.done line first.out.now first.at));
+          };
+        }
 
   -- the definition stops here
-  pub print_stops : {how : Stop} {p : Printed} → p ≡ printed_as how tried rejected at end → read_log (program_budget - tried) (drop at log) ≡ stopped how
-      → (p ≡ printed w₀ log) × ((w ≡ after_run w₀ log program_budget) × (out ≡ sets out₀ 0 (run_lines w₀ log)))
-  unfolding printed stopped step_lines
-  print_stops {how} g e =
+  pub print_stops : {how : Stop} → read_log (program_budget - tried) (drop at log) ≡ stopped how
+      → (report_of how tried rejected at ≡ run_report w₀ log program_budget)
+      × ((w ≡ after_run w₀ log program_budget) × Appended first (run_lines w₀ log) t)
+  unfolding stopped step_lines
+  print_stops {how} e =
       let d = stops x.running.rest e in
-      let done : Progress out₀ 0 (run_lines w₀ log) out end [] = rw e at x.lines in
-      let place : end ≡ length (run_lines w₀ log) = omega (arith, (progress_end done).0) in
-      (g ∙ (λ i. printed_as (d.0 i).stop (d.0 i).tried (d.0 i).rejected (d.0 i).bytes (place i)), (d.1, (progress_end done).1))
+      let all : run_lines w₀ log ≡ x.done = rw e at x.whole ∙ append-nil x.done in
+      (d.0, (d.1, rw all x.so_far))

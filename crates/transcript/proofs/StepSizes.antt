@@ -1,7 +1,9 @@
 -- A step that is read has at least four bytes and a kind from 1 to 7, and a rejection of a log is 3 to 6. The log may hold any numbers.
 -- Assumes nothing.
 use Rattle.std.specs.Prelude.{Ok, Err, Some, None}
+use Rattle.types.specs.declared.rejection.Rejection.{Rejection}
 use Rattle.types.specs.declared.rejection.Rejection.TheVariants.{KeptKind, UnknownKind, NumberForm}
+use Rattle.types.specs.Rejections.{rejection_number}
 use Rattle.model.specs.Numbers.{ReadNumber, valued}
 use Rattle.model.specs.Log.{ReadStep, one_step}
 use Prim.Native.Nat.{ℕ, zero, suc, ◌%◌, ◌≤◌}
@@ -27,7 +29,7 @@ pub record Damage (r : ℕ) : Type 0 where
 
 abbrev SizedNumber : ReadNumber → Type 0
 SizedNumber (Ok read) = 1 ≤ read.bytes
-SizedNumber (Err r) = Damage r
+SizedNumber (Err r) = Damage (rejection_number r)
 
 lower_sized : (x : ℕ) (r : ReadNumber) → SizedNumber r → SizedNumber (with_lower x r)
 unfolding with_lower
@@ -55,7 +57,7 @@ number_sized bs = groups_sized 5 true bs
 
 abbrev SizedNumbers : ℕ → Numbers → Type 0
 SizedNumbers count (values vs m) = count ≤ m
-SizedNumbers count (rejected r) = Damage r
+SizedNumbers count (rejected r) = Damage (rejection_number r)
 
 first_sized : (count v n : ℕ) (r : Numbers) → 1 ≤ n → SizedNumbers count r → SizedNumbers (suc count) (with_first v n r)
 unfolding with_first
@@ -94,7 +96,7 @@ pub record SizedStep (s : Step) (n : ℕ) : Type 0 where
 abbrev Sized : ReadStep → Type 0
 Sized (Ok (Some read)) = SizedStep read.step read.next
 Sized (Ok None) = Unit {0}
-Sized (Err r) = Damage r
+Sized (Err r) = Damage (rejection_number r)
 
 module _ (k : ℕ) (e : is_kept (kind_of k) ≡ false) (f : is_unknown (kind_of k) ≡ false) where
   numbers_after : (n : ℕ) → 1 ≤ n → (r : Numbers) → SizedNumbers (used_numbers (kind_of k)) r → Sized (after_numbers k n r)
@@ -106,17 +108,20 @@ module _ (k : ℕ) (e : is_kept (kind_of k) ≡ false) (f : is_unknown (kind_of 
 
 kind_after_lem : (bs : List ℕ) (r : ReadNumber) → SizedNumber r → Sized (after_kind bs r)
 unfolding after_kind
-kind_after_lem bs (Ok read) h = go (is_kept (kind_of read.value)) refl (is_unknown (kind_of read.value)) refl
+kind_after_lem bs (Ok read) h = go (is_kept (kind_of k)) refl (is_unknown (kind_of k)) refl
   where
+    k : ℕ
+    k = read.value
+
     others : ReadStep
-    others = after_numbers k n (read_numbers (used_numbers (kind_of k)) (drop n bs))
+    others = after_numbers k read.bytes (read_numbers (used_numbers (kind_of k)) (drop read.bytes bs))
 
     go :
         (t : Bool) → is_kept (kind_of k) ≡ t → (u : Bool) → is_unknown (kind_of k) ≡ u
         → Sized (cond t (Err KeptKind) (cond u (Err UnknownKind) others))
     go true e u f = record { least = omega arith; most = omega arith }
     go false e true f = record { least = omega arith; most = omega arith }
-    go false e false f = numbers_after k e f n h _ (numbers_sized (used_numbers (kind_of k)) (drop n bs))
+    go false e false f = numbers_after k e f read.bytes h _ (numbers_sized (used_numbers (kind_of k)) (drop read.bytes bs))
 kind_after_lem bs (Err r) h = h
 
 reading_sized : (bs : List ℕ) → Sized (read_step bs)
@@ -127,5 +132,5 @@ reading_sized (b ∷ bs) = kind_after_lem (b ∷ bs) (read_number (b ∷ bs)) (n
 pub step_sized : (bs : List ℕ) {s : Step} {n : ℕ} → read_step bs ≡ one_step s n → SizedStep s n
 step_sized bs e = rw e at (reading_sized bs)
 
-pub step_damage : (bs : List ℕ) {r : ℕ} → read_step bs ≡ Err r → Damage r
+pub step_damage : (bs : List ℕ) {r : Rejection} → read_step bs ≡ Err r → Damage (rejection_number r)
 step_damage bs e = rw e at (reading_sized bs)

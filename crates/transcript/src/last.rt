@@ -1,22 +1,22 @@
 // The last line of the text.
+ghost use Rattle.std.specs.Prelude.{Ok};
 ghost use Rattle.model.specs.Transcript.{stop_text, last_line};
-ghost use Rattle.replay.specs.Run.{report_of};
 ghost use Rattle.decimal_text.specs.Appended.{HasRoom, Appended};
 
 use decimal_text::text::Text;
 use text_lines::number::{append_spaced, append_word};
-use types::Stop;
+use types::{Report, Stop};
 
 // Appends how a replay stopped, then the steps tried, those rejected, and the bytes of whole steps.
-#[tactic(auto, using(decimal_text::proofs::Appending::appending), unfolding(model::specs::Transcript::last_line))]
-pub fn append_last(text: &mut Text<'_>, stop: Stop, tried: u64, rejected: u64, bytes: u64)
-    requires { HasRoom text.old (last_line (report_of stop tried rejected bytes)) }
-    ensures { Appended text.old (last_line (report_of stop tried rejected bytes)) text.new }
+#[tactic(auto, using(decimal_text::proofs::Appending::appending), unfolding(model::specs::Transcript::last_line, model::specs::Transcript::last_with))]
+pub fn append_last(text: &mut Text<'_>, report: Report)
+    requires { HasRoom text.old (last_line (Ok report)) }
+    ensures { Appended text.old (last_line (Ok report)) text.new }
 {
-    append_stop(text, stop);
-    append_spaced(text, tried);
-    append_spaced(text, rejected);
-    append_spaced(text, bytes);
+    append_stop(text, report.stop);
+    append_spaced(text, report.tried);
+    append_spaced(text, report.rejected);
+    append_spaced(text, report.bytes);
     text.byte(b'\n');
 }
 
@@ -29,7 +29,6 @@ fn append_stop(text: &mut Text<'_>, stop: Stop)
     match stop {
         Stop::Ended => text.bytes(b"ended"),
         Stop::Spent => text.bytes(b"spent"),
-        Stop::Damaged(r) => append_word(text, b"damaged", r),
-        Stop::Rejected(r) => append_word(text, b"rejected", r),
+        Stop::Damaged(rejection) => append_word(text, b"damaged", u64::from(rejection)),
     }
 }

@@ -3,44 +3,47 @@
 #![tactic(auto, using(decimal_text::proofs::Appending::appending))]
 
 ghost use Rattle.types.specs.Rejections.{answer_count, answer_number};
-ghost use Rattle.std.specs.Prelude.{◌≡◌, ◌≤◌, length, take};
+ghost use Rattle.std.specs.Prelude.{◌≡◌};
 ghost use Rattle.model.specs.Transcript.{transcript};
 ghost use Rattle.transcript.specs.Text.{text_rejection, text_count, text_writing, after_text};
 
-use types::Writing;
+use types::rejection::Rejection;
 
 mod last;
 mod steps;
 mod text;
+
+// A longer log is too long.
+pub const LONGEST_LOG: usize = 16384;
 
 // No text is longer: the law `text_most_lem`.
 pub const MOST: usize = 42232;
 
 // Writes the text of a log: its length, or rejection 8 where the output is too short, which leaves it untouched. An output that is long enough for any
 // text is written at once, another one from a space of its own.
-pub fn transcript(log: &[u8], out: &mut [u8]) -> Writing
+pub fn transcript(log: &[u8], out: &mut [u8]) -> Result<usize, Rejection>
     ensures result_value { answer_number result ≡ text_rejection out.old (transcript log.now) }
     ensures result_value_2 { answer_count result ≡ text_count out.old (transcript log.now) }
     ensures value { result ≡ text_writing out.old (transcript log.now) }
     ensures out_after { out.new ≡ after_text out.old (transcript log.now) }
 {
     if MOST <= out.len() {
-        return Writing::Bytes(text::write_text(log, out));
+        return Ok(text::write_text(log, out));
     }
     let mut space = [0u8; MOST];
     let len = text::write_text(log, &mut space);
-    deliver(out, &space, len)
+    deliver(out, &space[..len])
 }
 
-// Hands a text, the first `len` bytes of a space, to an output: its length, or rejection 8 where the output is too short, which leaves it untouched.
-fn deliver(out: &mut [u8], space: &[u8], len: usize) -> Writing
-    requires { len ≤ length space.now }
-    ensures value { result ≡ text_writing out.old (take len space.now) }
-    ensures out_after { out.new ≡ after_text out.old (take len space.now) }
+// Hands a text to an output: its length, or rejection 8 where the output is too short, which leaves it untouched.
+fn deliver(out: &mut [u8], text: &[u8]) -> Result<usize, Rejection>
+    ensures value { result ≡ text_writing out.old text.now }
+    ensures out_after { out.new ≡ after_text out.old text.now }
 {
+    let len = text.len();
     if out.len() < len {
-        return Writing::Rejected(8);
+        return Err(Rejection::OutputLength);
     }
-    out[..len].copy_from_slice(&space[..len]);
-    Writing::Bytes(len)
+    out[..len].copy_from_slice(text);
+    Ok(len)
 }

@@ -1,28 +1,13 @@
 -- Answers of `run`.
 use native.Mathlib.Omega.{arith}
-use Prim.Native.Nat.{ℕ, ◌+◌}
-use mathlib.Core.Path.{◌≡◌, refl, sym, ap, ◌∙◌}
-use mathlib.Core.Bool.{Bool, true, false, cond, not}
-use lib.Dec.{eqb}
-use mir.Val.{bool_byte}
-use Rattle.std.specs.Prelude.{Result, is_err, Ok}
-use Rattle.types.specs.declared.rejection.Rejection.{Rejection}
-use Rattle.types.specs.Rejections.{answer_number}
-use Rattle.types.proofs.Rejections.{error_number}
+use Prim.Native.Nat.{ℕ}
+use mathlib.Core.Path.{◌≡◌, sym, ap, ◌∙◌}
+use Rattle.std.specs.Prelude.{Ok}
 use Rattle.replay.specs.Run.{report_of}
 use Rattle.replay.proofs.Rest.{rest_end, rest_damaged, rest_ended, rest_spent}
-use Rattle.replay.proofs.Running.{start, counted_still, turned}
+use Rattle.replay.proofs.Running.{start, counted_still, turned, one_more}
 use Rattle.replay.proofs.run.Goals as goal
 use Rattle.replay.proofs.run.Goals.{then-log-at, else-log-at}
-
--- an error is one more
-by_test : (b : Bool) → bool_byte b ≡ cond (not b) 0 1
-by_test true = refl
-by_test false = refl
-
-one_more : (n : ℕ) {A : Type 0} (r : Result A Rejection) {b : Bool} {k : ℕ} → b ≡ is_err r → k ≡ bool_byte b
-    → n + k ≡ n + cond (eqb (answer_number r) 0) 0 1
-one_more n r {b} e f = ap (λ (m : ℕ). n + m) (f ∙ by_test b) ∙ rw (error_number r, e)
 
 pub loop-tried-init : goal.loop-tried-init
 loop-tried-init c = start _ _ _ c.requires.formed

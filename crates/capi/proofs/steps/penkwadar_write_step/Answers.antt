@@ -12,7 +12,7 @@ pub returns-then-count-lt1 : goal.returns-then-count-lt1
 unfolding write_answer out_after byte_count_after
 returns-then-count-lt1 c =
     let t = no_word _ _ _ _ _ c.if-count-lt1.true in
-    record { value = t.0; out_after = t.1.0; count_after = t.1.1 }
+    record { value = c.from.ensures ∙ t.0; out_after = t.1.0; count_after = t.1.1 }
 
 pub returns : goal.returns
 unfolding write_answer out_after byte_count_after step_of writing

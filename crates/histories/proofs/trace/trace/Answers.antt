@@ -8,7 +8,8 @@ use Rattle.histories.proofs.trace.trace.Goals as goal
 pub returns-in_err-place : goal.returns-in_err-place
 returns-in_err-place c =
     let p = err_from_is_err_and c.from_residual.result c.from_residual.ensures.1 in
-    rw (p.1, p.2) (rejected _ _ _ _ (sym c.in_err-place.was ∙ c.find_named.ensures))
+    let t = rejected _ _ _ _ (sym c.in_err-place.was ∙ c.find_named.ensures) c.clear.ensures in
+    rw (p.1, p.2) (record { number = t.0; hosts_after = t.1 })
 
 pub offset_bounds-state-place : goal.offset_bounds-state-place
 offset_bounds-state-place c = omega (arith, fits _ _ _ _ (sym c.in_ok-place.was ∙ c.find_named.ensures))
@@ -16,15 +17,18 @@ offset_bounds-state-place c = omega (arith, fits _ _ _ _ (sym c.in_ok-place.was 
 pub bounds-state-place : goal.bounds-state-place
 bounds-state-place c = omega (arith, fits _ _ _ _ (sym c.in_ok-place.was ∙ c.find_named.ensures))
 
-pub returns-then-state-place-eq-PENDING : goal.returns-then-state-place-eq-PENDING
-returns-then-state-place-eq-PENDING c =
-    waits _ _ _ _ (sym c.in_ok-place.was ∙ c.find_named.ensures) c.if-state-place-eq-PENDING.true c.new.ensures
-
 pub overflow_sub-at : goal.overflow_sub-at
 overflow_sub-at c = least _ _ _ _ (sym c.in_ok-place.was ∙ c.find_named.ensures)
 
-pub sources-requires : goal.sources-requires
-sources-requires c = starts _ _ _ _ (sym c.in_ok-place.was ∙ c.find_named.ensures) c.if-state-place-eq-PENDING.false
+pub put_sources-requires-clause-started : goal.put_sources-requires-clause-started
+put_sources-requires-clause-started c = starts _ _ _ _ (sym c.in_ok-place.was ∙ c.find_named.ensures) c.if-state-place-ne-PENDING.true
 
-pub returns : goal.returns
-returns c = lists _ _ _ _ (sym c.in_ok-place.was ∙ c.find_named.ensures) c.if-state-place-eq-PENDING.false c.sources.ensures
+pub returns-then-state-place-ne-PENDING : goal.returns-then-state-place-ne-PENDING
+returns-then-state-place-ne-PENDING c =
+    let t = lists _ _ _ _ (sym c.in_ok-place.was ∙ c.find_named.ensures) c.if-state-place-ne-PENDING.true c.put_sources.ensures in
+    record { number = t.0; hosts_after = t.1 }
+
+pub returns-else-state-place-ne-PENDING : goal.returns-else-state-place-ne-PENDING
+returns-else-state-place-ne-PENDING c =
+    let t = waits _ _ _ _ (sym c.in_ok-place.was ∙ c.find_named.ensures) c.if-state-place-ne-PENDING.false c.clear.ensures in
+    record { number = t.0; hosts_after = t.1 }
