@@ -4,16 +4,14 @@ use Rattle.types.specs.declared.rejection.Rejection.{Rejection}
 use Rattle.types.specs.Rejections.{rejection_number, answer_number}
 use Rattle.types.proofs.Rejections.{number_not_0}
 use Rattle.std.specs.Prelude.{Err}
-use Rattle.model.specs.Log.{ReadStep, one_step}
+use Rattle.model.specs.Log.{ReadStep}
 use Prim.Native.Nat.{ℕ, ◌≤◌, ◌<◌}
-use native.Mathlib.Omega.{arith}
-use mathlib.Core.Path.{◌≡◌, refl, sym, ◌∙◌}
+use mathlib.Core.Path.{◌≡◌, sym, ◌∙◌}
 use mathlib.Core.List.{List}
 use lib.ListN.{length, drop}
 use lib.Seq.{sets}
-use borrow.Author.Tests.{le-leb, lt-leb, ne_eqb}
-use Rattle.types.specs.declared.step.Step.{Step}
-use Rattle.model.specs.Log.{read_step, read_at}
+use borrow.Author.Tests.{le-leb, lt-leb}
+use Rattle.model.specs.Log.{read_at}
 use Rattle.model.specs.Results.{reading_step, reading_next, read_rejection}
 use Rattle.model.proofs.Results.{reads_at}
 use Rattle.word_outputs.specs.WordOutputs.{step_words}

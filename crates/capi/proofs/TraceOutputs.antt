@@ -2,16 +2,16 @@
 -- Assumes nothing.
 use Prim.Native.Nat.{ℕ, ◌-◌, ◌≤◌, ◌<◌}
 use mathlib.Core.Path.{◌≡◌, refl, sym, ap, ◌∙◌}
-use mathlib.Core.Bool.{Bool, true, false, cond}
-use mathlib.Core.List.{List, [], ◌∷◌, ◌++◌}
-use lib.Dec.{leb, ltb, eqb}
+use mathlib.Core.Bool.{true}
+use mathlib.Core.List.{List, ◌∷◌, ◌++◌}
+use lib.Dec.{leb, ltb}
 use lib.ListN.{length, drop}
 use lib.Seq.{sets}
 use borrow.Author.Tests.{le-leb, lt-leb}
 use Rattle.std.specs.Prelude.{Ok, Err}
 use Rattle.types.specs.declared.rejection.Rejection.{Rejection}
 use Rattle.types.specs.declared.rejection.Rejection.TheVariants.{OutputLength}
-use Rattle.types.specs.Rejections.{Written, rejection_number, numbered, answered, answer_number}
+use Rattle.types.specs.Rejections.{Written, rejection_number, answered, answer_number}
 use Rattle.types.proofs.Rejections.{answered_number}
 use Rattle.model.specs.Checks.{first_of, ◌or_else◌}
 use Rattle.model.proofs.Results.{first_below}

@@ -40,5 +40,8 @@ pub extern "C" fn penkwadar_stable_prefix(
     if count.len() < 1 {
         return u64::from(Rejection::OutputLength);
     }
-    put_count(count, histories::prefix::stable_prefix(state, zone, index, host, out))
+    put_count(
+        count,
+        histories::prefix::stable_prefix(state, zone, index, host, out),
+    )
 }

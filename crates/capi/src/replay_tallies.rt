@@ -2,8 +2,8 @@
 ghost use Rattle.std.specs.Prelude.{◌≡◌};
 ghost use Rattle.word_outputs.specs.TallyOutputs.{tally_answer, tally_state_after, tally_report_after, tally_words_after};
 
-use types::rejection::Rejection;
 use tallies::tallied::replay_by_value;
+use types::rejection::Rejection;
 use word_outputs::tally_words::{put_tally, tally_in};
 use word_outputs::words::{REPORT_WORDS, put_replay};
 

@@ -57,5 +57,8 @@ pub extern "C" fn penkwadar_write_step(
     if count.len() < 1 {
         return u64::from(Rejection::OutputLength);
     }
-    put_count(count, log_writer::write_step(out, at, Step { kind, a, b, c, d }))
+    put_count(
+        count,
+        log_writer::write_step(out, at, Step { kind, a, b, c, d }),
+    )
 }

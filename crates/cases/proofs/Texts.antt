@@ -1,4 +1,6 @@
 -- Rows about texts: the program's, and the one for spreadsheets.
+use Rattle.std.specs.Prelude.{Ok}
+use Rattle.types.specs.Rejections.{answered}
 use Prim.Native.Nat.{ℕ}
 use mathlib.Core.Path.{◌≡◌, refl, ap, ◌∙◌}
 use mathlib.Core.List.{List, [], ◌∷◌, ◌++◌}
@@ -10,7 +12,7 @@ use Rattle.model.specs.Replicas.{stable_prefix}
 use Rattle.model.specs.StableHistory.{longer, longest_of, stable_history}
 use Rattle.model.specs.Log.{read_log}
 use Rattle.model.specs.Replay.{replayed, report, after_replay}
-use Rattle.model.specs.Transcript.{digits, decimal, spaced, spaced_all, shard_line, stop_text, last_line, program_start, program_budget, lines, too_long, transcript}
+use Rattle.model.specs.Transcript.{digits, decimal, spaced, spaced_all, shard_line, stop_text, last_with, last_line, program_start, program_budget, lines, too_long, transcript}
 use Rattle.model.proofs.WellFormed.{is_well_formed}
 use Rattle.model.proofs.StaysWellFormed.{replay_accepted}
 use Rattle.model.proofs.ProgramStart.{start_shards, start_formed}
@@ -40,10 +42,10 @@ quick_report log =
 quick_text : List ℕ → List ℕ
 quick_text log =
     let left = quick_after_all 2 program_start (read_log program_budget log).steps in
-    quick_lines 2 0 program_start (read_log program_budget log).steps ++ (shard_line left 0 ++ (shard_line left 1 ++ last_line (quick_report log)))
+    quick_lines 2 0 program_start (read_log program_budget log).steps ++ (shard_line left 0 ++ (shard_line left 1 ++ last_line (Ok (quick_report log))))
 
 lines_are : (log : List ℕ) {t : List ℕ} → quick_text log ≡ t → lines log ≡ t
-unfolding lines quick_text quick_report after_replay replayed report
+unfolding lines quick_text quick_report after_replay replayed report answered
 lines_are log e =
     rw (
       replay_accepted start_formed,
@@ -55,7 +57,7 @@ lines_are log e =
 
 pub program_text : ProgramText
 unfolding given_cases step_trying log_reading sample_log sample_text quick_text quick_report quick_lines quick_rejected_in
-    stable_history longest_of longer stable_prefix digits decimal spaced spaced_all shard_line stop_text last_line too_long transcript
+    stable_history longest_of longer stable_prefix digits decimal spaced spaced_all shard_line stop_text last_with last_line too_long transcript
 program_text =
     record {
       sample = lines_are _ refl;

@@ -3,19 +3,16 @@
 
 #![tactic(auto)]
 
-ghost use Rattle.std.specs.Prelude.{◌≤◌, length};
-
 use std::env::FillError;
 use std::io;
 use std::rt::Env;
-use types::Writing;
 
 mod input;
 mod output;
 mod passing;
 
 // The most bytes that a log may have, and one more.
-const READ_BYTES: usize = 16385;
+const READ_BYTES: usize = transcript::LONGEST_LOG + 1;
 
 fn main(rt: HostRuntime) {
     if has_arguments(&rt) {
@@ -48,19 +45,14 @@ fn usage(rt: &impl Eprint) {
 // Prints the text of a log.
 fn show(rt: &(impl Print + Eprint + Alloc), log: &[u8]) {
     let mut out = [0u8; transcript::MOST];
-    match transcript::transcript(log, &mut out) {
-        Writing::Bytes(len) => {
-            print(rt, &out, len);
-        }
-        Writing::Rejected(_) => {}
+    if let Ok(len) = transcript::transcript(log, &mut out) {
+        print(rt, &out[..len]);
     }
 }
 
-// Writes the first bytes of an output to standard output.
-fn print(rt: &(impl Print + Eprint + Alloc), out: &[u8], len: usize)
-    requires { len ≤ length out.now }
-{
-    if let Err(error) = output::write_all(&mut io::writer(rt), &out[..len]) {
+// Writes a text to standard output.
+fn print(rt: &(impl Print + Eprint + Alloc), text: &[u8]) {
+    if let Err(error) = output::write_all(&mut io::writer(rt), text) {
         fail(rt, "penkwadar: cannot write the text", error);
     }
 }

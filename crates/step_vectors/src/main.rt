@@ -6,6 +6,7 @@
 
 use std::io;
 use std::io::Read;
+use types::rejection::number_of;
 use types::step::Step;
 
 // The bits of a number in one byte, and the top bit of all its bytes but the last.
@@ -90,7 +91,7 @@ fn differs<R: Read>(input: &mut R, space: &mut [u64]) -> bool {
     let check = number(input);
     fill(input, space);
     match space.get_mut(..len) {
-        Some(state) => machine::step(state, s) != answer || checksum(state) != check,
+        Some(state) => number_of(&machine::step(state, s)) != answer || checksum(state) != check,
         None => true,
     }
 }
