@@ -57,22 +57,23 @@ module _ {w : List ℕ} {z m o : ℕ} (r : ReadyNext w z m o) where
   long : length (headed w z n m o) ≡ length w
   long = headed_long w z n m o
 
-  pub next_unused : Unused (headed w z (get_or w (z * 2112 + 1) 0) m o) (z * 2112 + 64 + get_or w (z * 2112 + 1) 0 * 256) (size m)
+  -- where the replicas of the next configuration begin at p
+  pub next_unused : {p : ℕ} → p ≡ place z (get_or w (z * 2112 + 1) 0) 0 → Unused (headed w z (get_or w (z * 2112 + 1) 0) m o) p (size m)
   unfolding n place
-  next_unused =
+  next_unused {p} e =
       let few = (configured m o r.configured).size_most in
       record {
         few = few;
-        fits = omega (arith, few, long, r.state.long, r.shard, r.next);
-        vacant = λ k h. headed_vacant k (omega arith);
+        fits = omega (arith, e, few, long, r.state.long, r.shard, r.next);
+        vacant = λ k h. let q : p + k * 64 ≡ place z n k = omega (arith, e) in rw q (headed_vacant k (omega arith));
       }
 
 -- the head words, then the pending replicas, are the whole install
-pub next_stored : (w : List ℕ) (z m o : ℕ) {k : ℕ} → k ≡ size m
-    → pending_from (headed w z (get_or w (z * 2112 + 1) 0) m o) (z * 2112 + 64 + get_or w (z * 2112 + 1) 0 * 256) k ≡ install_next w z m o
-unfolding install_next put_head head_place place
-next_stored w z m o e =
+pub next_stored : (w : List ℕ) (z m o : ℕ) {p k : ℕ} → p ≡ place z (get_or w (z * 2112 + 1) 0) 0 → k ≡ size m
+    → pending_from (headed w z (get_or w (z * 2112 + 1) 0) m o) p k ≡ install_next w z m o
+unfolding install_next put_head head_place
+next_stored w z m o p e =
     let n = get_or w (z * 2112 + 1) 0 in
     let a : z * 2112 + 2 + n ≡ z * 2112 + (2 + n) = omega arith in
     let b : z * 2112 + 10 + n ≡ z * 2112 + (10 + n) = omega arith in
-    pending-from (headed w z n m o) z n (omega arith) _ ∙ rw (e, installed_word, a, b)
+    pending-from (headed w z n m o) z n p _ ∙ rw (e, installed_word, a, b)

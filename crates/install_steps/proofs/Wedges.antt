@@ -23,25 +23,22 @@ use Rattle.install_steps.proofs.InstallReads.{installed_few}
 
 -- the mode of replica k of configuration j of shard z
 abbrev mode_of : List ℕ → ℕ → ℕ → ℕ → ℕ
-mode_of w z j k = get_or w (z * 2112 + 64 + j * 256 + k * 64) 0
+mode_of w z j k = get_or w (place z j k) 0
 
 -- its four places tell whether a replica is immutable
 pub four_places : {w : List ℕ} {z j : ℕ} → Ready w z j → any_below 4 (λ k. eqb (mode_of w z j k) 3) ≡ is_wedged w z j
-unfolding is_wedged place
+unfolding is_wedged
 four_places {w} {z} {j} r =
-    same_test (any_below 4 (λ k. eqb (mode_of w z j k) 3)) (any_below (size (members w z j)) (λ k. is_immutable (replica_at w (mode_place k))))
+    same_test (any_below 4 (λ k. eqb (mode_of w z j k) 3)) (any_below (size (members w z j)) (λ k. is_immutable (replica_at w (place z j k))))
     (λ e.
     let b = any_below_lem 4 (λ k. eqb (mode_of w z j k) 3) e in
     let three : mode_of w z j b.number ≡ 3 = eqb-true (mode_of w z j b.number) 3 b.passes in
     let used = number_in_use (formed r.state) r.shard r.configuration b.small (omega (arith, three, mode_word_lem w (place z j b.number))) in
     below_any _ _ b.number used (immutable_word w (place z j b.number) ∙ b.passes))
     (λ e.
-    let b = any_below_lem (size (members w z j)) (λ k. is_immutable (replica_at w (mode_place k))) e in
+    let b = any_below_lem (size (members w z j)) (λ k. is_immutable (replica_at w (place z j k))) e in
     below_any 4 (λ k. eqb (mode_of w z j k) 3) b.number (omega (arith, b.small, size_few (formed r.state) r.shard r.configuration))
     (sym (immutable_word w (place z j b.number)) ∙ b.passes))
-  where
-    mode_place : ℕ → ℕ
-    mode_place k = z * 2112 + 64 + j * 256 + k * 64
 
 -- ---- the newest configuration
 

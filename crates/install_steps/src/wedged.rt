@@ -3,17 +3,15 @@ ghost use Rattle.std.specs.Prelude.{◌≡◌};
 ghost use Rattle.model.specs.Install.{is_wedged, is_newest_wedged};
 ghost use Rattle.lookup.specs.Ready.{Ready};
 
-use types::layout::{
-    CONFIGURATION_WORDS, HEAD_WORDS, IMMUTABLE, INSTALLED, REPLICA_WORDS, SHARD_WORDS,
-};
+use lookup::name::Named;
+use types::layout::{IMMUTABLE, INSTALLED, REPLICAS, SHARD_WORDS};
 
-// Whether a replica of configuration j of shard z is immutable. All its four places are looked at: those of no member have no mode.
-fn is_wedged(state: &[u64], z: usize, j: usize) -> bool
-    requires { Ready state.now z j }
-    ensures { result ≡ is_wedged state.now z j }
+// Whether a replica of a configuration is immutable. All its four places are looked at: those of no member have no mode.
+fn is_wedged(state: &[u64], at: Named) -> bool
+    requires { Ready state.now at.z at.j }
+    ensures { result ≡ is_wedged state.now at.z at.j }
 {
-    let first = z * SHARD_WORDS + HEAD_WORDS + j * CONFIGURATION_WORDS;
-    (0..4).any(|k| state[first + k * REPLICA_WORDS] == IMMUTABLE)
+    (0..REPLICAS).any(|k| state[at.replica(k)] == IMMUTABLE)
 }
 
 // Whether a replica of the newest configuration of shard z is immutable.
@@ -21,6 +19,12 @@ pub fn is_newest_wedged(state: &[u64], z: usize) -> bool
     requires { Ready state.now z 0 }
     ensures { result ≡ is_newest_wedged state.now z }
 {
-    let n = state[z * SHARD_WORDS + INSTALLED] as usize;
-    is_wedged(state, z, n - 1)
+    let installed = state[z * SHARD_WORDS + INSTALLED] as usize;
+    is_wedged(
+        state,
+        Named {
+            z,
+            j: installed - 1,
+        },
+    )
 }

@@ -6,7 +6,7 @@ ghost use Rattle.model.specs.Setup.{initial_shard, initial_state};
 ghost use Rattle.setup.specs.Planned.{Planned};
 
 use crate::plan::SHARD_PLAN;
-use types::configuration::Configuration;
+use types::configuration::Members;
 use types::layout::{ACTIVE, HEAD_WORDS, INSTALLED, MEMBERS, ORDERERS, REPLICA_WORDS, SHARD_WORDS};
 
 // One shard's 2,112 words, where they are all 0: its head words, and an active replica for each member.
@@ -18,13 +18,9 @@ fn write_shard(words: &mut [u64], sequencer: u64, members: u64, orderer: u64)
     words[INSTALLED] = 1;
     words[MEMBERS] = members;
     words[ORDERERS] = orderer;
-    let first = Configuration {
-        place: HEAD_WORDS,
-        members,
-        orderer,
-    };
-    for k in 0..first.size() as usize {
-        words[first.place + k * REPLICA_WORDS] = ACTIVE;
+    let size = Members(members).size() as usize;
+    for k in 0..size {
+        words[HEAD_WORDS + k * REPLICA_WORDS] = ACTIVE;
     }
 }
 

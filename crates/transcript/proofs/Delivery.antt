@@ -7,7 +7,7 @@ use Prim.Native.Nat.{ℕ, ◌+◌, ◌≤◌, ◌<◌}
 use native.Mathlib.Nat.{zero-add}
 use native.Mathlib.Omega.{arith}
 use mathlib.Core.Path.{◌≡◌, refl, ◌∙◌}
-use mathlib.Core.List.{List, [], ◌∷◌, ◌++◌}
+use mathlib.Core.List.{List, [], ◌∷◌}
 use native.Mathlib.Decide.{dec_le}
 use lib.Dec.{leb}
 use lib.ListN.{length, take, drop, replicate, length-replicate, length-append, length-drop}
@@ -45,11 +45,11 @@ module _ (log : List ℕ) {last : List ℕ} {n : ℕ} (e : n ≡ length (transcr
 -- ---- what is answered and left
 
 module _ (out text : List ℕ) where
-  fits : length text ≤ length out → text_rejection out text ≡ 0
+  pub fits : length text ≤ length out → text_rejection out text ≡ 0
   unfolding text_rejection first_of
   fits l = rw (le-leb (length text) (length out) l)
 
-  no_room : length out < length text → text_rejection out text ≡ 8
+  pub no_room : length out < length text → text_rejection out text ≡ 8
   unfolding text_rejection first_of
   no_room l = rw (lt-leb (length text) (length out) l)
 
@@ -68,14 +68,13 @@ module _ (out text : List ℕ) where
       let f = fits l in
       (rw (f, e.0), e.1 ∙ sets-eq text out 0 (omega (arith, l)) ∙ rw (f, zero-add (length text)))
 
-  -- a text that was handed over, or is too long
-  pub delivered : length text ≤ length out → (Ok (length text) ≡ text_writing out text) × (text ++ drop (length text) out ≡ after_text out text)
-  unfolding text_writing answered after_text
-  delivered l = let f = fits l in (rw f, rw f)
+  pub accepts : length text ≤ length out → answered (text_rejection out text) (length text) ≡ Ok (length text)
+  unfolding answered
+  accepts l = rw (fits l)
 
-  pub too_long : length out < length text → (Err OutputLength ≡ text_writing out text) × (out ≡ after_text out text)
-  unfolding text_writing answered numbered after_text
-  too_long l = let e = no_room l in (rw e, rw e)
+  pub rejects : length out < length text → answered (text_rejection out text) (length text) ≡ Err OutputLength
+  unfolding answered numbered
+  rejects l = rw (no_room l)
 
   -- an output keeps its length
   pub text_kept : length (after_text out text) ≡ length out
@@ -95,3 +94,6 @@ module _ (out text : List ℕ) where
         | yes l ↦ omega (arith, l, rw (fits l) at e)
         | no l ↦ omega (arith, rw (no_room (omega (arith, l))) at e)
       ]
+
+-- with these the check finds by itself what is answered and left where a text is handed over
+pub ruleset handed_over = (fits, no_room, accepts, rejects)

@@ -36,6 +36,7 @@ pub fn transcript(log: &[u8], out: &mut [u8]) -> Result<usize, Rejection>
 }
 
 // Hands a text to an output: its length, or rejection 8 where the output is too short, which leaves it untouched.
+#[tactic(auto, using(crate::proofs::Delivery::handed_over), unfolding(crate::specs::Text::text_writing, crate::specs::Text::after_text))]
 fn deliver(out: &mut [u8], text: &[u8]) -> Result<usize, Rejection>
     ensures value { result ≡ text_writing out.old text.now }
     ensures out_after { out.new ≡ after_text out.old text.now }

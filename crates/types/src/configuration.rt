@@ -1,11 +1,41 @@
 // A configuration by value: where its replicas' words begin, its member set and its orderer.
 ghost use Rattle.std.specs.Prelude.{◌≡◌, ◌+◌, ◌*◌, ◌<◌, ◌^◌};
-ghost use Rattle.types.specs.Members.{has_member, size};
+ghost use Rattle.types.specs.Members.{has_member, size, replica_number};
 ghost use Rattle.types.specs.ReplicaPlace.{replica_place};
 
 use crate::layout::REPLICA_WORDS;
 
-#[derive(Clone, Copy)]
+// A member set: the bit of each host in it is set.
+#[derive(Clone, Copy, Debug, PartialEq, Eq)]
+pub struct Members(pub u64);
+
+impl Members {
+    // How many hosts are in the set: its count of ones.
+    pub fn size(self) -> u32
+        ensures { result ≡ size self.0 }
+    {
+        u64::count_ones(self.0)
+    }
+
+    // Whether a host is in the set.
+    #[tactic(auto, unfolding(crate::specs::Members::has_member))]
+    pub fn has(self, host: u64) -> bool
+        requires { host < 16 }
+        ensures { result ≡ has_member self.0 host }
+    {
+        (self.0 >> host) % 2 == 1
+    }
+
+    // How many hosts of the set are below a host: the number of its replica.
+    pub fn below(self, host: u64) -> u32
+        requires { host < 16 }
+        ensures { result ≡ replica_number self.0 host }
+    {
+        u64::count_ones(self.0 % (1 << host))
+    }
+}
+
+#[derive(Clone, Copy, Debug, PartialEq, Eq)]
 pub struct Configuration {
     pub place: usize,
     pub members: u64,
@@ -13,11 +43,11 @@ pub struct Configuration {
 }
 
 impl Configuration {
-    // How many replicas the configuration has: the count of ones of its member set.
+    // How many replicas the configuration has.
     pub fn size(self) -> u32
         ensures { result ≡ size self.members }
     {
-        u64::count_ones(self.members)
+        Members(self.members).size()
     }
 
     // Whether a host is a member.
@@ -25,15 +55,16 @@ impl Configuration {
         requires { host < 16 }
         ensures { result ≡ has_member self.members host }
     {
-        (self.members >> host) % 2 == 1
+        Members(self.members).has(host)
     }
 
-    // The place of a host's replica: the count of ones below its bit, 64 words each.
+    // The place of a host's replica, 64 words each.
+    #[tactic(auto, unfolding(crate::specs::ReplicaPlace::replica_place))]
     pub fn replica(self, host: u64) -> usize
         requires { (host < 16) × (self.place < 2 ^ 32) }
         ensures { result ≡ replica_place self host }
     {
-        let below = u64::count_ones(self.members % (1 << host));
-        self.place + REPLICA_WORDS * (below as usize)
+        let number = Members(self.members).below(host) as usize;
+        self.place + REPLICA_WORDS * number
     }
 }

@@ -1,6 +1,13 @@
 // Where a state's words are, and how many: the numbers of `Layout` and `Replicas` of `model`, by the same names.
 
-// A shard has its head words and then eight configurations, each of four replicas.
+// Hosts are the numbers below this one.
+pub const HOSTS: u64 = 16;
+
+// A shard has its head words and then so many configurations, each of so many replicas.
+pub const CONFIGURATIONS: usize = 8;
+
+pub const REPLICAS: usize = 4;
+
 pub const SHARD_WORDS: usize = 2112;
 
 pub const HEAD_WORDS: usize = 64;

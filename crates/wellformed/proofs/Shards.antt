@@ -14,7 +14,10 @@ use Rattle.model.proofs.Ranges.{alike}
 use Rattle.wellformed_entries.specs.Zeros.{zeros}
 use Rattle.wellformed_entries.proofs.Zeros.{zeros_at}
 use Rattle.model.proofs.Heads.{sequencer_word, installed_word}
-use Rattle.wellformed_configurations.proofs.Configurations.{count_word}
+
+-- the count of its configurations
+abbrev pub count_word : List ℕ → ℕ → ℕ
+count_word w z = get_or w (z * 2112 + 1) 0
 
 -- the head words past those of the configurations
 abbrev pub rest_words : List ℕ → ℕ → List ℕ

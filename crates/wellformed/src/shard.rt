@@ -4,7 +4,7 @@ ghost use Rattle.model.specs.Tests.{all_below};
 ghost use Rattle.model.specs.Layout.{shard_words};
 ghost use Rattle.model.specs.WellFormed.{is_sequencer, is_shard};
 
-use types::layout::{INSTALLED, REST, REST_WORDS, SHARD_WORDS};
+use types::layout::{CONFIGURATIONS, INSTALLED, REST, REST_WORDS, SHARD_WORDS};
 use wellformed_configurations::configuration;
 use wellformed_entries::zero::all_zero;
 
@@ -27,7 +27,7 @@ pub fn is_shard(state: &[u64], shards: usize, z: usize) -> bool
     let first = at + REST;
     let end = first + REST_WORDS;
     is_sequencer(shards, z, state[at])
-        && (1..=8).contains(&installed)
+        && (1..=CONFIGURATIONS as u64).contains(&installed)
         && all_zero(&state[first..end])
         && configuration::all_configurations(state, shards, z)
 }

@@ -21,8 +21,7 @@ use Rattle.model.proofs.WellFormedMembers.{configured, head_few}
 use Rattle.wellformed_entries.specs.Zeros.{zeros}
 use Rattle.wellformed_entries.proofs.Zeros.{part_length, zeros_at}
 use Rattle.wellformed_replicas.proofs.ReplicaWords.{unused_words}
-use Rattle.wellformed_origins.specs.Before.{FewBefore}
-use Rattle.wellformed_origins.proofs.OriginWords.{members_word, first_place}
+use Rattle.wellformed_origins.specs.Before.{Within, HasBefore}
 
 -- ---- parts in a row
 
@@ -56,12 +55,15 @@ no_parts w Z j at n fits =
 
 -- ---- a configuration
 
--- the count of configurations of its shard, and its orderer
-abbrev pub count_word : List ℕ → ℕ → ℕ
-count_word w z = get_or w (z * 2112 + 1) 0
+-- its member set and orderer, and the count of configurations, where the shard's words begin at h
+abbrev pub members_word : List ℕ → ℕ → ℕ → ℕ
+members_word w h j = get_or w (h + 2 + j) 0
 
 abbrev pub orderer_word : List ℕ → ℕ → ℕ → ℕ
-orderer_word w z j = get_or w (z * 2112 + 10 + j) 0
+orderer_word w h j = get_or w (h + 10 + j) 0
+
+abbrev pub count_word : List ℕ → ℕ → ℕ
+count_word w h = get_or w (h + 1) 0
 
 -- the four parts, the first n of them members'
 abbrev pub are_parts : List ℕ → ℕ → ℕ → ℕ → ℕ → Bool
@@ -117,60 +119,77 @@ are_origins w z j n = all_below n (λ k. is_origin_of w z j (replica_at w (place
 pub proper_few : (m o n : ℕ) → true ≡ is_configuration m o → n ≡ ones m → n ≤ 4
 proper_few m o n e d = omega (arith, d, (configured m o (sym e)).size_most)
 
-module _ (w : List ℕ) (Z z j : ℕ) where
+-- the words of shard z begin at h, those of the configuration's replicas at p
+module _ (w : List ℕ) (Z z j h p : ℕ) (head : h ≡ z * 2112) (first : p ≡ place z j 0) where
+  -- the tests of a configuration whose head words are as they should be, or not
+  by_head : Bool → Bool
+  by_head b = b && are_parts w Z j p (ones (members_word w h j)) && are_origins w z j (ones (members_word w h j))
+
+  here : p ≡ z * 2112 + 64 + j * 256
+  unfolding place
+  here = omega (arith, first)
+
+  pub lies_within : Within w z j → p + 256 ≤ length w
+  lies_within r = omega (arith, here, r.shard, r.configuration)
+
   -- where the configuration is installed
-  in_place : j < count_word w z → is_configuration_of w Z z j
-      ≡ (is_configuration (members_word w z j) (orderer_word w z j) && are_parts w Z j (first_place z j) (ones (members_word w z j))
-      && are_origins w z j (ones (members_word w z j)))
-  unfolding is_configuration_of is_head_of is_installed place
-  in_place h = rw (installed_word w z, members_word_lem w z j, orderer_word_lem w z j, lt-ltb j (count_word w z) h)
+  in_place : j < count_word w h → is_configuration_of w Z z j ≡ by_head (is_configuration (members_word w h j) (orderer_word w h j))
+  unfolding is_configuration_of is_head_of is_installed place by_head
+  in_place l =
+      let i : j < count_word w (z * 2112) = rw head at l in
+      rw (head, here) (rw (installed_word w z, members_word_lem w z j, orderer_word_lem w z j, lt-ltb j (count_word w (z * 2112)) i))
 
   -- where it is not
-  not_in_place : count_word w z ≤ j → is_configuration_of w Z z j
-      ≡ (eqb (members_word w z j) 0 && eqb (orderer_word w z j) 0 && are_parts w Z j (first_place z j) (ones (members_word w z j))
-      && are_origins w z j (ones (members_word w z j)))
-  unfolding is_configuration_of is_head_of is_installed place
-  not_in_place h = rw (installed_word w z, members_word_lem w z j, orderer_word_lem w z j, le-ltb j (count_word w z) h)
+  not_in_place : count_word w h ≤ j → is_configuration_of w Z z j ≡ by_head (eqb (members_word w h j) 0 && eqb (orderer_word w h j) 0)
+  unfolding is_configuration_of is_head_of is_installed place by_head
+  not_in_place l =
+      let i : count_word w (z * 2112) ≤ j = rw head at l in
+      rw (head, here) (rw (installed_word w z, members_word_lem w z j, orderer_word_lem w z j, le-ltb j (count_word w (z * 2112)) i))
 
-  pub improper : j < count_word w z → false ≡ is_configuration (members_word w z j) (orderer_word w z j) → false ≡ is_configuration_of w Z z j
-  improper h e = rw (in_place h, ← e)
+  pub improper : j < count_word w h → false ≡ is_configuration (members_word w h j) (orderer_word w h j) → false ≡ is_configuration_of w Z z j
+  unfolding by_head
+  improper l e = rw (in_place l, ← e)
 
-  pub wrong_parts : (n : ℕ) → j < count_word w z → true ≡ is_configuration (members_word w z j) (orderer_word w z j)
-      → n ≡ ones (members_word w z j) → false ≡ are_parts w Z j (first_place z j) n → false ≡ is_configuration_of w Z z j
-  wrong_parts n h e d p = rw (in_place h, ← e, ← d, ← p)
+  module _ (n : ℕ) (l : j < count_word w h) (e : true ≡ is_configuration (members_word w h j) (orderer_word w h j)) (d : n ≡ ones (members_word w h j)) where
+    pub wrong_parts : false ≡ are_parts w Z j p n → false ≡ is_configuration_of w Z z j
+    unfolding by_head
+    wrong_parts f = rw (in_place l, ← e, ← d, ← f)
 
-  pub proper_parts : (n : ℕ) → j < count_word w z → true ≡ is_configuration (members_word w z j) (orderer_word w z j)
-      → n ≡ ones (members_word w z j) → true ≡ are_parts w Z j (first_place z j) n → are_origins w z j n ≡ is_configuration_of w Z z j
-  proper_parts n h e d p = rw (in_place h, ← e, ← d, ← p)
+    pub proper_parts : true ≡ are_parts w Z j p n → are_origins w z j n ≡ is_configuration_of w Z z j
+    unfolding by_head
+    proper_parts f = rw (in_place l, ← e, ← d, ← f)
 
-  pub some_members : count_word w z ≤ j → (members_word w z j ≡ 0 → ⊥) → false ≡ is_configuration_of w Z z j
-  some_members h n = rw (not_in_place h, ne_eqb (members_word w z j) 0 n)
+  pub some_members : count_word w h ≤ j → (members_word w h j ≡ 0 → ⊥) → false ≡ is_configuration_of w Z z j
+  unfolding by_head
+  some_members l n = rw (not_in_place l, ne_eqb (members_word w h j) 0 n)
 
-  pub some_orderer : count_word w z ≤ j → (orderer_word w z j ≡ 0 → ⊥) → false ≡ is_configuration_of w Z z j
-  some_orderer h n = rw (not_in_place h, ne_eqb (orderer_word w z j) 0 n, and-false)
+  pub some_orderer : count_word w h ≤ j → (orderer_word w h j ≡ 0 → ⊥) → false ≡ is_configuration_of w Z z j
+  unfolding by_head
+  some_orderer l n = rw (not_in_place l, ne_eqb (orderer_word w h j) 0 n, and-false)
 
-  none : first_place z j + 256 ≤ length w → zeros (take 256 (drop (first_place z j) w)) ≡ are_parts w Z j (first_place z j) 0
+  none : p + 256 ≤ length w → zeros (take 256 (drop p w)) ≡ are_parts w Z j p 0
   none f =
-      no_parts w Z j (first_place z j) 4 f
-      ∙ alike 4 (λ k. is_part Z j false (part w (first_place z j + k * 64))) (λ k. is_part Z j (ltb k 0) (part w (first_place z j + k * 64)))
-      (λ k h. ap (λ (b : Bool). is_part Z j b (part w (first_place z j + k * 64))) (sym (le-ltb k 0 (omega arith))))
+      no_parts w Z j p 4 f
+      ∙ alike 4 (λ k. is_part Z j false (part w (p + k * 64))) (λ k. is_part Z j (ltb k 0) (part w (p + k * 64)))
+      (λ k h. ap (λ (b : Bool). is_part Z j b (part w (p + k * 64))) (sym (le-ltb k 0 (omega arith))))
 
-  pub no_members : first_place z j + 256 ≤ length w → count_word w z ≤ j → members_word w z j ≡ 0 → orderer_word w z j ≡ 0
-      → zeros (take (first_place z j + 256 - first_place z j) (drop (first_place z j) w)) ≡ is_configuration_of w Z z j
-  unfolding ones all_below
-  no_members f h m o =
-      let n : first_place z j + 256 - first_place z j ≡ 256 = omega arith in
-      rw (not_in_place h, m, o) (ap (λ (i : ℕ). zeros (take i (drop (first_place z j) w))) n ∙ none f ∙ sym (and-true _))
+  pub no_members : p + 256 ≤ length w → count_word w h ≤ j → members_word w h j ≡ 0 → orderer_word w h j ≡ 0
+      → zeros (take (p + 256 - p) (drop p w)) ≡ is_configuration_of w Z z j
+  unfolding ones all_below by_head
+  no_members f l m o =
+      let n : p + 256 - p ≡ 256 = omega arith in
+      rw (not_in_place l, m, o) (ap (λ (i : ℕ). zeros (take i (drop p w))) n ∙ none f ∙ sym (and-true _))
 
 -- what the tests say, made in turn
-pub ruleset configuration_tests = (improper, wrong_parts, proper_parts, proper_few, some_members, some_orderer, no_members)
+pub ruleset configuration_tests = (lies_within, improper, wrong_parts, proper_parts, proper_few, some_members, some_orderer, no_members)
 
 -- ---- the configurations before are well-formed, so the one before has few members
 
-pub few_before : (w : List ℕ) (Z z j : ℕ) → true ≡ all_below j (is_configuration_of w Z z) → FewBefore w z j
+pub has_before : (w : List ℕ) (Z z j : ℕ) → Within w z j → true ≡ all_below j (is_configuration_of w Z z) → HasBefore w z j
 unfolding is_configuration_of
-few_before w Z z j e =
+has_before w Z z j r e =
     record {
+      within = r;
       few = λ h.
           let before = all_below_lem j (is_configuration_of w Z z) (sym e) (j - 1) (omega arith) in
           head_few w z (j - 1) (search (and_left, and_right));

@@ -1,15 +1,16 @@
 // A configuration: its head words and its four replicas.
-ghost use Rattle.std.specs.Prelude.{◌≡◌, true, ◌+◌, ◌*◌, ◌≤◌, ◌<◌, ltb, length};
+ghost use Rattle.std.specs.Prelude.{◌≡◌, true, ◌+◌, ◌*◌, ◌≤◌, ltb, length};
 ghost use Rattle.model.specs.Tests.{all_below};
 ghost use Rattle.model.specs.Layout.{shard_words, configuration_words, part};
 ghost use Rattle.types.specs.ReplicaPlace.{part_words};
 ghost use Rattle.model.specs.WellFormed.{is_part, is_configuration_of};
-ghost use Rattle.wellformed_origins.specs.Before.{FewBefore};
+ghost use Rattle.wellformed_origins.specs.Before.{HasBefore};
 
+use lookup::name::Named;
 use types::configuration::Configuration;
 use types::layout::{
-    CONFIGURATION_WORDS, ENTRIES, HEAD_WORDS, INSTALLED, LENGTH, MEMBERS, ORDERERS, REPLICA_WORDS,
-    SHARD_WORDS,
+    CONFIGURATION_WORDS, CONFIGURATIONS, ENTRIES, INSTALLED, LENGTH, MEMBERS, ORDERERS,
+    REPLICA_WORDS,
 };
 use wellformed_entries::entry::each_entry;
 use wellformed_entries::members;
@@ -51,37 +52,36 @@ pub fn all_parts(state: &[u64], shards: usize, j: usize, place: usize, size: usi
     all_replicas(state, shards, j, place, size) && all_zero(&state[from..end])
 }
 
-// Whether configuration j of shard z is well-formed.
+// Whether a configuration is well-formed.
 #[tactic(auto, using(crate::proofs::Configurations::configuration_tests))]
-pub fn is_configuration_of(state: &[u64], shards: usize, z: usize, j: usize) -> bool
-    requires shard_words_in_bounds { (z * shard_words + shard_words ≤ length state.now) × (j < 8) }
-    requires few_before { FewBefore state.now z j }
-    ensures { result ≡ is_configuration_of state.now shards z j }
+pub fn is_configuration_of(state: &[u64], shards: usize, at: Named) -> bool
+    requires { HasBefore state.now at.z at.j }
+    ensures { result ≡ is_configuration_of state.now shards at.z at.j }
 {
-    let at = z * SHARD_WORDS;
+    let head = at.head();
     let c = Configuration {
-        place: at + HEAD_WORDS + j * CONFIGURATION_WORDS,
-        members: state[at + MEMBERS + j],
-        orderer: state[at + ORDERERS + j],
+        place: at.first(),
+        members: state[head + MEMBERS + at.j],
+        orderer: state[head + ORDERERS + at.j],
     };
-    if (j as u64) < state[at + INSTALLED] {
+    if (at.j as u64) < state[head + INSTALLED] {
         let size = c.size() as usize;
         members::is_configuration(c.members, c.orderer)
-            && all_parts(state, shards, j, c.place, size)
-            && origin::all_origins(state, z, j, size)
+            && all_parts(state, shards, at.j, c.place, size)
+            && origin::all_origins(state, at, size)
     } else {
         let end = c.place + CONFIGURATION_WORDS;
         c.members == 0 && c.orderer == 0 && all_zero(&state[c.place..end])
     }
 }
 
-// Whether the eight configurations of shard z are well-formed.
+// Whether the eight configurations of shard z are well-formed. A loop, since the test of each one requires that those before it passed.
 pub fn all_configurations(state: &[u64], shards: usize, z: usize) -> bool
     requires { z * shard_words + shard_words ≤ length state.now }
     ensures { result ≡ all_below 8 (is_configuration_of state.now shards z) }
 {
-    for j in 0..8 {
-        if !is_configuration_of(state, shards, z, j) {
+    for j in 0..CONFIGURATIONS {
+        if !is_configuration_of(state, shards, Named { z, j }) {
             return false;
         }
     }

@@ -2,7 +2,7 @@
 ghost use Rattle.std.specs.Prelude.{◌≡◌};
 ghost use Rattle.types.specs.Members.{is_configuration};
 
-use types::configuration::Configuration;
+use types::configuration::Members;
 
 // The member set of all hosts, the last host, and the most members that a configuration has.
 const ALL_HOSTS: u64 = 65535;
@@ -16,10 +16,6 @@ const MOST_MEMBERS: u32 = 4;
 pub fn is_configuration(members: u64, orderer: u64) -> bool
     ensures { result ≡ is_configuration members orderer }
 {
-    let c = Configuration {
-        place: 0,
-        members,
-        orderer,
-    };
-    members <= ALL_HOSTS && orderer <= LAST_HOST && c.has(orderer) && c.size() <= MOST_MEMBERS
+    let set = Members(members);
+    members <= ALL_HOSTS && orderer <= LAST_HOST && set.has(orderer) && set.size() <= MOST_MEMBERS
 }

@@ -1,101 +1,95 @@
 // The origin of a replica, its word 3: the host of the configuration before from which it began, plus 1.
-ghost use Rattle.std.specs.Prelude.{◌≡◌, not, ◌||◌, ◌+◌, ◌*◌, ◌≤◌, ◌<◌, ltb, length};
+ghost use Rattle.std.specs.Prelude.{◌≡◌, not, ◌≤◌, ◌<◌};
 ghost use Rattle.model.specs.Tests.{all_below};
 ghost use Rattle.model.specs.Replicas.{is_pending};
-ghost use Rattle.model.specs.Layout.{shard_words, configuration_words, place, replica_at};
-ghost use Rattle.types.specs.ReplicaPlace.{part_words};
+ghost use Rattle.model.specs.Layout.{place, replica_at, members};
 ghost use Rattle.model.specs.Origins.{names_member, names_source, is_origin_of};
-ghost use Rattle.wellformed_origins.specs.Before.{FewBefore};
+ghost use Rattle.wellformed_origins.specs.Before.{Within, HasBefore};
 
-use types::configuration::Configuration;
-use types::layout::{
-    CONFIGURATION_WORDS, HEAD_WORDS, MEMBERS, ORIGIN, PENDING, REPLICA_WORDS, SHARD_WORDS,
-};
+use lookup::name::Named;
+use types::configuration::Members;
+use types::layout::{HOSTS, MEMBERS, ORIGIN, PENDING, REPLICAS};
 
 // Whether an origin x names a host of a member set.
 #[tactic(auto, unfolding(model::specs::Origins::names_member))]
-fn names_member(members: u64, x: u64) -> bool
-    ensures { result ≡ names_member members x }
+fn names_member(members: Members, x: u64) -> bool
+    ensures { result ≡ names_member members.0 x }
 {
-    let c = Configuration {
-        place: 0,
-        members,
-        orderer: 0,
-    };
-    (1..=16).contains(&x) && c.has(x - 1)
+    (1..=HOSTS).contains(&x) && members.has(x - 1)
 }
 
-// Whether an origin x of configuration j names a source: a member of the configuration before whose replica is not pending.
-fn names_source(state: &[u64], z: usize, j: usize, x: u64) -> bool
-    requires { (z * shard_words + shard_words ≤ length state.now) × (j < 8) × (1 ≤ j) × FewBefore state.now z j }
-    ensures { result ≡ names_source state.now z j x }
+// The member set of a configuration.
+#[tactic(auto, unfolding(model::specs::Layout::members, model::specs::Layout::head_word, model::specs::Layout::head_place))]
+fn members_of(state: &[u64], at: Named) -> Members
+    requires { Within state.now at.z at.j }
+    ensures { result.0 ≡ members state.now at.z at.j }
 {
-    let at = z * SHARD_WORDS;
-    let before = state[at + MEMBERS + (j - 1)];
-    if !names_member(before, x) {
+    Members(state[at.head() + MEMBERS + at.j])
+}
+
+// Whether an origin x names a source: a member of the configuration before whose replica is not pending.
+fn names_source(state: &[u64], at: Named, x: u64) -> bool
+    requires { HasBefore state.now at.z at.j × (1 ≤ at.j) }
+    ensures { result ≡ names_source state.now at.z at.j x }
+{
+    let before = at.before();
+    let members = members_of(state, before);
+    if !names_member(members, x) {
         return false;
     }
-    let c = Configuration {
-        place: 0,
-        members: before,
-        orderer: 0,
-    };
-    let first = at + HEAD_WORDS + (j - 1) * CONFIGURATION_WORDS;
-    state[first + c.replica(x - 1)] != PENDING
+    let number = members.below(x - 1) as usize;
+    state[before.replica(number)] != PENDING
 }
 
-// Whether replica k of configuration j, a member's, has a proper origin.
+// Whether replica k of a configuration, a member's, has a proper origin.
 #[tactic(auto, using(crate::proofs::OriginWords::origin_tests), unfolding(model::specs::Layout::place))]
-fn is_origin_of(state: &[u64], z: usize, j: usize, k: usize) -> bool
-    requires shard_words_in_bounds { (z * shard_words + shard_words ≤ length state.now) × (j < 8) × (k < 4) }
-    requires few_before { FewBefore state.now z j }
-    ensures { result ≡ is_origin_of state.now z j (replica_at state.now (place z j k)) }
+fn is_origin_of(state: &[u64], at: Named, k: usize) -> bool
+    requires { HasBefore state.now at.z at.j × (k < 4) }
+    ensures { result ≡ is_origin_of state.now at.z at.j (replica_at state.now (place at.z at.j k)) }
 {
-    let at = z * SHARD_WORDS + HEAD_WORDS + j * CONFIGURATION_WORDS + k * REPLICA_WORDS;
-    let x = state[at + ORIGIN];
-    if j == 0 || state[at] == PENDING {
+    let place = at.replica(k);
+    let x = state[place + ORIGIN];
+    if at.j == 0 || state[place] == PENDING {
         x == 0
     } else {
-        names_source(state, z, j, x)
+        names_source(state, at, x)
     }
 }
 
-// Whether the members' replicas of configuration j, the first `count`, have proper origins.
-fn each_origin(state: &[u64], z: usize, j: usize, count: usize) -> bool
-    requires shard_words_in_bounds { (z * shard_words + shard_words ≤ length state.now) × (j < 8) × (count ≤ 4) }
-    requires few_before { FewBefore state.now z j }
-    ensures { result ≡ all_below count (λ k. is_origin_of state.now z j (replica_at state.now (place z j k))) }
+// Whether the members' replicas of a configuration, the first `count`, have proper origins.
+fn each_origin(state: &[u64], at: Named, count: usize) -> bool
+    requires { HasBefore state.now at.z at.j × (count ≤ 4) }
+    ensures { result ≡ all_below count (λ k. is_origin_of state.now at.z at.j (replica_at state.now (place at.z at.j k))) }
 {
-    (0..count).all(|k| is_origin_of(state, z, j, k))
+    (0..count).all(|k| is_origin_of(state, at, k))
 }
 
-// Whether none of the four replicas at a place is pending.
-fn none_pending(state: &[u64], place: usize) -> bool
-    requires { place + configuration_words ≤ length state.now }
-    ensures { result ≡ all_below 4 (λ k. not (is_pending (replica_at state.now (place + k * part_words)))) }
+// Whether none of the four replicas of a configuration is pending.
+#[tactic(auto, unfolding(model::specs::Layout::place))]
+fn none_pending(state: &[u64], at: Named) -> bool
+    requires { Within state.now at.z at.j }
+    ensures { result ≡ all_below 4 (λ k. not (is_pending (replica_at state.now (place at.z at.j k)))) }
 {
-    (0..4).all(|k| state[place + k * REPLICA_WORDS] != PENDING)
+    (0..REPLICAS).all(|k| state[at.replica(k)] != PENDING)
 }
 
-// Whether the origins of the first `count` replicas at a place name hosts of a member set.
-fn all_named(state: &[u64], place: usize, count: usize, before: u64) -> bool
-    requires { (place + configuration_words ≤ length state.now) × (count ≤ 4) }
-    ensures { result ≡ all_below count (λ k. names_member before (replica_at state.now (place + k * part_words)).origin) }
+// Whether the origins of the first `count` replicas of a configuration name hosts of a member set.
+#[tactic(auto, unfolding(model::specs::Layout::place))]
+fn all_named(state: &[u64], at: Named, count: usize, before: Members) -> bool
+    requires { Within state.now at.z at.j × (count ≤ 4) }
+    ensures { result ≡ all_below count (λ k. names_member before.0 (replica_at state.now (place at.z at.j k)).origin) }
 {
-    (0..count).all(|k| names_member(before, state[place + k * REPLICA_WORDS + ORIGIN]))
+    (0..count).all(|k| names_member(before, state[at.replica(k) + ORIGIN]))
 }
 
 // The same as `each_origin`. Mostly no replica of the configuration, and none of the one before, is pending: then only the members before matter.
-pub fn all_origins(state: &[u64], z: usize, j: usize, count: usize) -> bool
-    requires shard_words_in_bounds { (z * shard_words + shard_words ≤ length state.now) × (j < 8) × (count ≤ 4) }
-    requires few_before { FewBefore state.now z j }
-    ensures { result ≡ all_below count (λ k. is_origin_of state.now z j (replica_at state.now (place z j k))) }
+pub fn all_origins(state: &[u64], at: Named, count: usize) -> bool
+    requires { HasBefore state.now at.z at.j × (count ≤ 4) }
+    ensures { result ≡ all_below count (λ k. is_origin_of state.now at.z at.j (replica_at state.now (place at.z at.j k))) }
 {
-    let at = z * SHARD_WORDS;
-    let first = at + HEAD_WORDS + j * CONFIGURATION_WORDS;
-    if 0 < j && none_pending(state, first - CONFIGURATION_WORDS) && none_pending(state, first) {
-        all_named(state, first, count, state[at + MEMBERS + (j - 1)])
+    if 0 < at.j && none_pending(state, at.before()) && none_pending(state, at) {
+        all_named(state, at, count, members_of(state, at.before()))
     } else {
-        each_origin(state, z, j, count)
+        each_origin(state, at, count)
     }
 }

@@ -4,8 +4,8 @@ use Rattle.install_steps.proofs.InstallReads.{installed_least}
 use Rattle.install_steps.proofs.Wedges.{newest_ready, newest_is}
 use Rattle.install_steps.proofs.wedged.is_newest_wedged.Goals as goal
 
-pub overflow_sub-n : goal.overflow_sub-n
-overflow_sub-n c = installed_least c.requires
+pub overflow_sub-installed : goal.overflow_sub-installed
+overflow_sub-installed c = installed_least c.requires
 
 pub is_wedged-requires : goal.is_wedged-requires
 is_wedged-requires c = newest_ready c.requires
