@@ -1,4 +1,4 @@
-// Steps from bytes: a kind, then the numbers that it uses, each read at its position. What is read is in `model`: `Numbers` and `Log`.
+// Steps from bytes: a kind, then the numbers that it uses, one after the other. What is read is in `model`: `Numbers` and `Log`.
 
 #![tactic(auto)]
 
@@ -6,7 +6,7 @@ ghost use Rattle.types.specs.Rejections.{answer_number};
 ghost use Rattle.std.specs.Prelude.{◌≡◌, drop};
 ghost use Rattle.model.specs.Log.{read_at, read_step};
 ghost use Rattle.model.specs.Results.{reading_step, reading_next, read_rejection, step_read, bytes_read, next_read};
-ghost use Rattle.log_reader.specs.ReadInParts.{kind_at};
+ghost use Rattle.log_reader.specs.ReadInParts.{Taken, kind_at};
 
 use numbers::read::read_number;
 use types::Reading;
@@ -44,40 +44,45 @@ pub fn first_step(log: &[u8]) -> Result<Option<Reading>, Rejection>
     if log.is_empty() {
         return Ok(None);
     }
-    let kind = read_number(log, 0)?;
-    after_kind(log, kind.bytes, kind.value)
+    let mut reader = Reader { log, at: 0 };
+    let kind = reader.number()?;
+    reader.after_kind(kind)
 }
 
-// The step whose kind has a number, where its other numbers begin at a position, with the position after it.
-fn after_kind(log: &[u8], at: usize, number: u64) -> Result<Option<Reading>, Rejection>
-    ensures { result ≡ kind_at log.now at number }
-{
-    Kind::try_from(number)?;
-    let a = read_number(log, at)?;
-    let at_b = at + a.bytes;
-    let b = read_number(log, at_b)?;
-    let at_c = at_b + b.bytes;
-    let c = read_number(log, at_c)?;
-    let at_d = at_c + c.bytes;
-    let three = Step {
-        kind: number,
-        a: a.value,
-        b: b.value,
-        c: c.value,
-        d: 0,
-    };
-    if Kind::fourths(number) == 0 {
-        return Ok(Some(Reading {
-            step: three,
-            next: at_d,
-        }));
+// A log, and the position of what is read next.
+#[derive(Drop)]
+struct Reader<'a> {
+    log: &'a [u8],
+    at: usize,
+}
+
+impl<'a> Reader<'a> {
+    // Reads a number.
+    #[inline(always)]
+    fn number(&mut self) -> Result<u64, Rejection>
+        ensures { Taken self.old result self.new }
+    {
+        let number = read_number(self.log, self.at)?;
+        self.at += number.bytes;
+        Ok(number.value)
     }
-    let d = read_number(log, at_d)?;
-    Ok(Some(Reading {
-        step: Step {
-            d: d.value,
-            ..three
-        },
-        next: at_d + d.bytes,
-    }))
+
+    // Reads the numbers of a step whose kind was read: the step, with the position after it.
+    fn after_kind(&mut self, kind: u64) -> Result<Option<Reading>, Rejection>
+        ensures { result ≡ kind_at self.old.log.now self.old.at kind }
+    {
+        Kind::try_from(kind)?;
+        let a = self.number()?;
+        let b = self.number()?;
+        let c = self.number()?;
+        let d = if Kind::fourths(kind) == 0 {
+            0
+        } else {
+            self.number()?
+        };
+        Ok(Some(Reading {
+            step: Step { kind, a, b, c, d },
+            next: self.at,
+        }))
+    }
 }

@@ -9,6 +9,7 @@ ghost use Rattle.model.specs.Writer.{step_bytes, write_rejection, writing, after
 ghost use Rattle.model.specs.Results.{count_beside};
 ghost use Rattle.log_writer.specs.WriteInParts.{writable, bytes_of, StepRoom};
 
+use decimal_text::text::Text;
 use numbers::write::{number_length, write_number};
 use numbers::{LIMIT, MOST_BYTES};
 use types::kind::Kind;
@@ -26,30 +27,73 @@ pub fn write_step(out: &mut [u8], at: usize, s: Step) -> Result<usize, Rejection
     ensures out_after { out.new ≡ after_writing out.old at s }
 {
     let used = Kind::try_from(s.kind)?.used();
-    if !are_writable(s, used) {
+    let step = WrittenStep { s, used };
+    if !step.is_writable() {
         return Err(Rejection::OutOfRange);
     }
-    if !has_room(out.len(), at, s, used) {
+    if !step.has_room(out.len(), at) {
         return Err(Rejection::OutputLength);
     }
-    let end = write_bytes(out, at, s, used);
+    let end = step.write(out, at);
     Ok(end - at)
 }
 
-// Whether each number can be written, and an unused one is 0.
-#[tactic(auto, unfolding(crate::specs::WriteInParts::writable, model::specs::Writer::is_writable))]
-fn are_writable(s: Step, used: usize) -> bool
-    ensures { result ≡ writable s used }
-{
-    s.a < LIMIT && s.b < LIMIT && s.c < LIMIT && s.d < LIMIT && (4 <= used || s.d == 0)
+// A step of a known kind, and how many numbers its kind uses. Its kind takes one byte.
+#[derive(Clone, Copy)]
+struct WrittenStep {
+    s: Step,
+    used: usize,
+    ghost small_kind: { s.kind < 128 },
 }
 
-// Whether an output of a length has room for a step at a position. Most outputs have it for any step.
-fn has_room(len: usize, at: usize, s: Step, used: usize) -> bool
-    requires { s.kind < 128 }
-    ensures { result ≡ leb (at + length (bytes_of s used)) len }
-{
-    fits(len, at, MOST_STEP_BYTES) || fits(len, at, step_length(s, used))
+impl WrittenStep {
+    // Whether each number can be written, and an unused one is 0.
+    #[tactic(auto, unfolding(crate::specs::WriteInParts::writable, model::specs::Writer::is_writable))]
+    fn is_writable(&self) -> bool
+        ensures { result ≡ writable self.now.s self.now.used }
+    {
+        let s = self.s;
+        s.a < LIMIT && s.b < LIMIT && s.c < LIMIT && s.d < LIMIT && (4 <= self.used || s.d == 0)
+    }
+
+    // Whether an output of a length has room for it at a position. Most outputs have it for any step.
+    fn has_room(&self, len: usize, at: usize) -> bool
+        ensures { result ≡ leb (at + length (bytes_of self.now.s self.now.used)) len }
+    {
+        fits(len, at, MOST_STEP_BYTES) || fits(len, at, self.length())
+    }
+
+    // How many bytes it takes.
+    #[tactic(auto, using(numbers::proofs::NumberLengths::length_most, crate::proofs::StepBytes::length_with_d, crate::proofs::StepBytes::length_no_d))]
+    fn length(&self) -> usize
+        ensures { result ≡ length (bytes_of self.now.s self.now.used) }
+    {
+        let s = self.s;
+        let three = 1 + number_length(s.a) + number_length(s.b) + number_length(s.c);
+        if 4 <= self.used {
+            return three + number_length(s.d);
+        }
+        three
+    }
+
+    // Writes its bytes where the output has room for them, and returns the position after them.
+    #[tactic(auto, using(decimal_text::proofs::Appending::appending), unfolding(crate::specs::WriteInParts::bytes_of))]
+    fn write(&self, out: &mut [u8], at: usize) -> usize
+        requires { StepRoom out.old at self.now.s self.now.used }
+        ensures value { result ≡ at + length (bytes_of self.now.s self.now.used) }
+        ensures out_after { out.new ≡ sets out.old at (bytes_of self.now.s self.now.used) }
+    {
+        let s = self.s;
+        let mut log = Text::new(out, at);
+        write_number(&mut log, s.kind);
+        write_number(&mut log, s.a);
+        write_number(&mut log, s.b);
+        write_number(&mut log, s.c);
+        if 4 <= self.used {
+            write_number(&mut log, s.d);
+        }
+        log.end()
+    }
 }
 
 // Whether n bytes fit into an output of a length at a position.
@@ -57,33 +101,4 @@ fn fits(len: usize, at: usize, n: usize) -> bool
     ensures { result ≡ leb (at + n) len }
 {
     n <= len && at <= len - n
-}
-
-// How many bytes a step takes. Its kind takes one.
-#[tactic(auto, using(numbers::proofs::NumberLengths::length_most, crate::proofs::StepBytes::length_with_d, crate::proofs::StepBytes::length_no_d))]
-fn step_length(s: Step, used: usize) -> usize
-    requires { s.kind < 128 }
-    ensures { result ≡ length (bytes_of s used) }
-{
-    let three = 1 + number_length(s.a) + number_length(s.b) + number_length(s.c);
-    if 4 <= used {
-        return three + number_length(s.d);
-    }
-    three
-}
-
-// Writes the bytes of a step where the output has room for them, and returns the position after them.
-fn write_bytes(out: &mut [u8], at: usize, s: Step, used: usize) -> usize
-    requires { StepRoom out.old at s used }
-    ensures value { result ≡ at + length (bytes_of s used) }
-    ensures out_after { out.new ≡ sets out.old at (bytes_of s used) }
-{
-    let at_a = write_number(out, at, s.kind);
-    let at_b = write_number(out, at_a, s.a);
-    let at_c = write_number(out, at_b, s.b);
-    let at_d = write_number(out, at_c, s.c);
-    if 4 <= used {
-        return write_number(out, at_d, s.d);
-    }
-    at_d
 }

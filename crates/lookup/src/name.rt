@@ -10,6 +10,7 @@ pub struct Named {
     pub j: usize,
 }
 
+// Places fit: a shard whose words are in memory has a number below 2 ^ 52.
 impl Named {
     // The configuration before, of the same shard.
     pub fn before(self) -> Named

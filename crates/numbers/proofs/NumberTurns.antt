@@ -48,29 +48,29 @@ last_byte_lem w v n k b bs h =
     go false = refl
 
 -- the bytes read so far: n of them, with the value v
-pub record Turn (log : List ℕ) (at low v w n : ℕ) : Type 0 where
+pub record Turn (log : List ℕ) (low v w n : ℕ) : Type 0 where
   pub least : 1 ≤ n
   pub most : n ≤ 5
   pub weight : w ≡ 2 ^ (7 * n)
   pub below : v < w
   pub same :
-      with_lower low (read_groups 4 false (drop (at + 1) log)) ≡ shifted w v n (read_groups (5 - n) false (drop (at + n) log))
+      with_lower low (read_groups 4 false (drop 1 log)) ≡ shifted w v n (read_groups (5 - n) false (drop n log))
 
-module _ (log : List ℕ) (at low : ℕ) where
-  pub turn_first : low < 128 → Turn log at low low 128 1
+module _ (log : List ℕ) (low : ℕ) where
+  pub turn_first : low < 128 → Turn log low low 128 1
   turn_first h =
       record { least = omega arith; most = omega arith; weight = refl; below = h; same = shifted_first low _ }
 
-  module _ {v w n : ℕ} (t : Turn log at low v w n) where
+  module _ {v w n : ℕ} (t : Turn log low v w n) where
     -- no byte is left
-    pub turn_ended : n < 5 → length log ≤ at + n → Err LogEnds ≡ with_lower low (read_groups 4 false (drop (at + 1) log))
+    pub turn_ended : n < 5 → length log ≤ n → Err LogEnds ≡ with_lower low (read_groups 4 false (drop 1 log))
     unfolding read_groups shifted
     turn_ended h e =
         let left : 5 - n ≡ suc (4 - n) = omega arith in
-        rw (t.same, left, drop_of_length-le log {i = at + n} e)
+        rw (t.same, left, drop_of_length-le log {i = n} e)
 
     -- five bytes were read
-    pub turn_full : 5 ≤ n → Err NumberForm ≡ with_lower low (read_groups 4 false (drop (at + 1) log))
+    pub turn_full : 5 ≤ n → Err NumberForm ≡ with_lower low (read_groups 4 false (drop 1 log))
     unfolding read_groups shifted
     turn_full h = let none : 5 - n ≡ zero = omega arith in rw (t.same, none)
 
@@ -88,27 +88,27 @@ module _ (log : List ℕ) (at low : ℕ) where
       pub turn_weight_fits : w * 128 < 2 ^ 64
       turn_weight_fits = omega (arith, turn_small)
 
-      module _ (i : at + n < length log) where
-        here : (b : ℕ) → get_or log (at + n) 0 ≡ b
-            → with_lower low (read_groups 4 false (drop (at + 1) log))
-            ≡ shifted w v n (read_groups (suc (4 - n)) false (b ∷ drop (suc (at + n)) log))
-        here b e = let left : 5 - n ≡ suc (4 - n) = omega arith in rw (t.same, left, drop-cons log (at + n) 0 i, e)
+      module _ (i : n < length log) where
+        here : (b : ℕ) → get_or log n 0 ≡ b
+            → with_lower low (read_groups 4 false (drop 1 log))
+            ≡ shifted w v n (read_groups (suc (4 - n)) false (b ∷ drop (suc n) log))
+        here b e = let left : 5 - n ≡ suc (4 - n) = omega arith in rw (t.same, left, drop-cons log n 0 i, e)
 
-        pub turn_last : (b : ℕ) → get_or log (at + n) 0 ≡ b → b < 128
+        pub turn_last : (b : ℕ) → get_or log n 0 ≡ b → b < 128
             → cond (eqb b 0) (Err NumberForm) (valued (v + w * (b % 128)) (n + 1))
-            ≡ with_lower low (read_groups 4 false (drop (at + 1) log))
+            ≡ with_lower low (read_groups 4 false (drop 1 log))
         turn_last b e l = sym (here b e ∙ last_byte_lem w v n (4 - n) b _ l)
 
-        pub turn_more : (b : ℕ) → get_or log (at + n) 0 ≡ b → 128 ≤ b → Turn log at low (v + w * (b % 128)) (w * 128) (n + 1)
+        pub turn_more : (b : ℕ) → get_or log n 0 ≡ b → 128 ≤ b → Turn log low (v + w * (b % 128)) (w * 128) (n + 1)
         turn_more b e l =
             let seven : 7 * (n + 1) ≡ 7 * n + 7 = omega arith in
             let bits : w * (b % 128) ≤ w * 127 = mul-le-mul_left w (omega arith) in
             let left : 4 - n ≡ 5 - (n + 1) = omega arith in
-            let next : suc (at + n) ≡ at + (n + 1) = omega arith in
+            let next : suc n ≡ n + 1 = omega arith in
             record {
               least = omega arith;
               most = omega arith;
               weight = rw (t.weight, seven, pow-add 2 (7 * n) 7);
               below = omega (arith, t.below, bits);
-              same = rw (here b e, read_more (4 - n) false b (drop (suc (at + n)) log) l, shifted_more w v n (b % 128), left, next);
+              same = rw (here b e, read_more (4 - n) false b (drop (suc n) log) l, shifted_more w v n (b % 128), left, next);
             }

@@ -1,5 +1,5 @@
 // Numbers from bytes: seven bits a byte, lowest first, the top bit on all bytes but the last, at most five bytes.
-ghost use Rattle.std.specs.Prelude.{◌≡◌, false, cond, ◌+◌, ◌<◌, eqb, length, drop};
+ghost use Rattle.std.specs.Prelude.{◌≡◌, false, cond, ◌<◌, eqb, drop};
 ghost use Rattle.types.specs.declared.rejection.Rejection.TheVariants.{NumberForm};
 ghost use Rattle.model.specs.Numbers.{read_groups, read_number, valued, with_lower};
 
@@ -21,18 +21,18 @@ pub fn read_number(log: &[u8], at: usize) -> Result<Number, Rejection>
             bytes: 1,
         });
     }
-    read_more(log, at, first % TOP_BIT)
+    read_more(&log[at..], first % TOP_BIT)
 }
 
-// A number of several bytes, whose first one has the seven bits `low`: v is the value of n bytes, and the next bit weighs w.
-fn read_more(log: &[u8], at: usize, low: u64) -> Result<Number, Rejection>
-    requires { (at < length log.now) × (low < 128) }
-    ensures { result ≡ with_lower low (read_groups 4 false (drop (at + 1) log.now)) }
+// The number of several bytes at the start of a log, whose first one has the seven bits `low`: v is the value of n bytes, and the next bit weighs w.
+fn read_more(log: &[u8], low: u64) -> Result<Number, Rejection>
+    requires { low < 128 }
+    ensures { result ≡ with_lower low (read_groups 4 false (drop 1 log.now)) }
 {
     let mut v = low;
     let mut w = TOP_BIT;
     for n in 1..MOST_BYTES {
-        let Some(&byte) = log.get(at + n) else {
+        let Some(&byte) = log.get(n) else {
             return Err(Rejection::LogEnds);
         };
         let b = u64::from(byte);

@@ -1,9 +1,10 @@
 // Numbers to bytes: how many, and writing them.
-ghost use Rattle.std.specs.Prelude.{◌≡◌, ◌+◌, ◌^◌, ◌≤◌, ◌<◌, length};
-ghost use Rattle.std.proofs.lemmas.List.Edits.{sets};
+ghost use Rattle.std.specs.Prelude.{◌≡◌, ◌^◌, ◌<◌, length};
 ghost use Rattle.model.specs.Numbers.{number_bytes};
+ghost use Rattle.decimal_text.specs.Appended.{HasRoom, Appended};
 
 use crate::{MOST_BYTES, TOP_BIT};
+use decimal_text::text::Text;
 
 // The least numbers that take two bytes, three, four and five.
 const TWO_BYTES: u64 = 1 << 7;
@@ -27,19 +28,16 @@ pub fn number_length(n: u64) -> usize
     }
 }
 
-// Writes a number where the output has room for it, and returns the position after it.
-pub fn write_number(out: &mut [u8], at: usize, n: u64) -> usize
-    requires { (n < 2 ^ 35) × (at + length (number_bytes n) ≤ length out.old) }
-    ensures value { result ≡ at + length (number_bytes n) }
-    ensures out_after { out.new ≡ sets out.old at (number_bytes n) }
+// Appends the bytes of a number. It is put into the writer of steps: as a call it makes them up to a seventh slower, with the position in memory.
+#[inline(always)]
+pub fn write_number(out: &mut Text, n: u64)
+    requires { (n < 2 ^ 35) × HasRoom out.old (number_bytes n) }
+    ensures { Appended out.old (number_bytes n) out.new }
 {
     let mut rest = n;
-    let mut next = at;
     while TOP_BIT <= rest {
-        out[next] = (TOP_BIT + rest % TOP_BIT) as u8;
+        out.byte((TOP_BIT + rest % TOP_BIT) as u8);
         rest /= TOP_BIT;
-        next += 1;
     }
-    out[next] = rest as u8;
-    next + 1
+    out.byte(rest as u8);
 }

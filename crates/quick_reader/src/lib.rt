@@ -8,6 +8,8 @@ ghost use Rattle.std.specs.Prelude.{◌≡◌, ◌+◌, leb, length, drop};
 ghost use Rattle.model.specs.Log.{read_at};
 ghost use Rattle.model.specs.Results.{reading_step, reading_next, read_rejection, step_read, next_read};
 
+use crate::long::LongAdd;
+use crate::short::Short;
 use types::Reading;
 use types::rejection::Rejection;
 
@@ -29,19 +31,13 @@ pub fn read_step(log: &[u8], at: usize) -> Result<Option<Reading>, Rejection>
     ensures result_value_3 { reading_next result ≡ next_read log.now at }
     ensures value { result ≡ read_at log.now at }
 {
-    if short::is_short(log, at) {
-        Ok(Some(Reading {
-            step: short::step(log, at),
-            next: at + short::byte_count(log, at),
-        }))
-    } else if long::is_long_add(log, at) {
-        Ok(Some(Reading {
-            step: long::step(log, at),
-            next: at + long::byte_count(log, at),
-        }))
-    } else {
-        log_reader::read_step(log, at)
+    if let Some(short) = Short::at(log, at) {
+        return Ok(Some(short.reading()));
     }
+    if let Some(add) = LongAdd::at(log, at) {
+        return Ok(Some(add.reading()));
+    }
+    log_reader::read_step(log, at)
 }
 
 // Whether the bytes that are looked at are left at a position.

@@ -57,7 +57,7 @@ module _ {w₀ log : List ℕ} {first : Text} {w : List ℕ} {t : Text} {at trie
     pub print_room : HasRoom first (run_lines w₀ log) → HasRoom t (step_line (tried + 1) s.kind a)
     unfolding line
     print_room r =
-        let all : run_lines w₀ log ≡ x.done ++ (line ++ lines_left (after w s) log next (tried + 1)) = x.whole ∙ ap (λ (l : List ℕ). x.done ++ l) one_line in
+        let all = x.whole ∙ ap (λ (l : List ℕ). x.done ++ l) one_line in
         let parts : length (run_lines w₀ log) ≡ length x.done + (length line + length (lines_left (after w s) log next (tried + 1))) =
         ap length all ∙ simp length-append in
         record { room = omega (arith, x.so_far.position, x.so_far.kept, r.room, parts) }

@@ -54,7 +54,7 @@ pub planned : Planned 2 program_plan
 unfolding program_plan
 planned = record { most = omega arith; long = refl; few = small }
 
--- the state that setup writes
+-- the state that setup writes may be run
 module _ (log : List ℕ) {w : List ℕ} (begins : w ≡ program_start) where
   pub start_ready : Formed w
   start_ready = rw begins (well_formed_ready start_formed)

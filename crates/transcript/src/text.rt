@@ -20,7 +20,6 @@ const STATE_WORDS: usize = SHARDS * SHARD_WORDS;
 const PLAN: &[u64] = &[1, 0b0011, 0, 0, 0b1100, 2];
 
 // Writes the text at the start of an output that has room for it, and returns its length.
-#[tactic(auto, using(decimal_text::proofs::Appending::appending, crate::proofs::WholeText::text_too_long, crate::proofs::WholeText::text_lines))]
 pub fn write_text(log: &[u8], out: &mut [u8]) -> usize
     requires { length (transcript log.now) ≤ length out.old }
     ensures value { result ≡ length (transcript log.now) }

@@ -52,7 +52,7 @@ pub fn all_parts(state: &[u64], shards: usize, j: usize, place: usize, size: usi
     all_replicas(state, shards, j, place, size) && all_zero(&state[from..end])
 }
 
-// Whether a configuration is well-formed.
+// Whether a configuration is well-formed. Its head words are read here: `lookup` reads those of states that are known to be well-formed.
 #[tactic(auto, using(crate::proofs::Configurations::configuration_tests))]
 pub fn is_configuration_of(state: &[u64], shards: usize, at: Named) -> bool
     requires { HasBefore state.now at.z at.j }

@@ -21,34 +21,34 @@ returns-in_err-try_from c =
     let t = writes_at a.out.now a.at a.s (rw (p.1, p.2) f.answer) f.untouched in
     record { result_value = t.0; result_value_2 = t.1.0; value = t.1.1.0; out_after = t.1.1.1 }
 
-pub returns-then-not-are_writable : goal.returns-then-not-are_writable
-returns-then-not-are_writable c =
+pub returns-then-not-is_writable : goal.returns-then-not-is_writable
+returns-then-not-is_writable c =
     let a = c.args in
     let k : Ok c.in_ok-try_from.field-0 ≡ kind_of a.s.kind = sym c.in_ok-try_from.was ∙ c.try_from.ensures.kind in
-    let e = rw (c.used-used.ensures, k) at (sym c.if-not-are_writable.ensures) in
+    let e = rw (c.used-used.ensures, k) at (sym c.if-not-is_writable.ensures) in
     let r = numbers_refused a.out.now a.at a.s (ok_known _ _ k) e in
     let t = writes_at a.out.now a.at a.s r.answer r.untouched in
     record { result_value = t.0; result_value_2 = t.1.0; value = t.1.1.0; out_after = t.1.1.1 }
 
-pub has_room-requires : goal.has_room-requires
-has_room-requires c =
+pub invariant_of-step : goal.invariant_of-step
+invariant_of-step c =
     omega (arith, known_below _ (ok_known _ _ (sym c.in_ok-try_from.was ∙ c.try_from.ensures.kind)))
 
 pub returns-then-not-has_room : goal.returns-then-not-has_room
 returns-then-not-has_room c =
     let a = c.args in
     let k : Ok c.in_ok-try_from.field-0 ≡ kind_of a.s.kind = sym c.in_ok-try_from.was ∙ c.try_from.ensures.kind in
-    let small = rw (c.used-used.ensures, k) at (sym c.if-not-are_writable.ensures) in
+    let small = rw (c.used-used.ensures, k) at (sym c.if-not-is_writable.ensures) in
     let h = leb-false _ _ (rw (c.used-used.ensures, k) at (sym c.if-not-has_room.ensures)) in
     let r = room_refused a.out.now a.at a.s (ok_known _ _ k) small h in
     let t = writes_at a.out.now a.at a.s r.answer r.untouched in
     record { result_value = t.0; result_value_2 = t.1.0; value = t.1.1.0; out_after = t.1.1.1 }
 
-pub write_bytes-end-requires : goal.write_bytes-end-requires
-write_bytes-end-requires c =
+pub write-end-requires : goal.write-end-requires
+write-end-requires c =
     let a = c.args in
     let k : Ok c.in_ok-try_from.field-0 ≡ kind_of a.s.kind = sym c.in_ok-try_from.was ∙ c.try_from.ensures.kind in
-    let small = rw (c.used-used.ensures, k) at (sym c.if-not-are_writable.ensures) in
+    let small = rw (c.used-used.ensures, k) at (sym c.if-not-is_writable.ensures) in
     let h = leb-true _ _ (rw (c.used-used.ensures, k) at (sym c.if-not-has_room.ensures)) in
     rw (c.used-used.ensures, k) (room a.out.now a.at a.s (ok_known _ _ k) small h)
 
@@ -56,10 +56,10 @@ pub returns : goal.returns
 returns c =
     let a = c.args in
     let k : Ok c.in_ok-try_from.field-0 ≡ kind_of a.s.kind = sym c.in_ok-try_from.was ∙ c.try_from.ensures.kind in
-    let end = rw (c.used-used.ensures, k) at c.write_bytes-end.ensures.value in
-    let count : c.write_bytes-end.result - a.at ≡ length (bytes_of a.s (used_by a.s)) = omega (arith, end) in
-    let stored = rw (c.used-used.ensures, k) at c.write_bytes-end.ensures.out_after in
-    let small = rw (c.used-used.ensures, k) at (sym c.if-not-are_writable.ensures) in
+    let end = rw (c.used-used.ensures, k) at c.write-end.ensures.value in
+    let count : c.write-end.result - a.at ≡ length (bytes_of a.s (used_by a.s)) = omega (arith, end) in
+    let stored = rw (c.used-used.ensures, k) at c.write-end.ensures.out_after in
+    let small = rw (c.used-used.ensures, k) at (sym c.if-not-is_writable.ensures) in
     let h = leb-true _ _ (rw (c.used-used.ensures, k) at (sym c.if-not-has_room.ensures)) in
     let t =
     writes_at a.out.now a.at a.s (rw count (written a.out.now a.at a.s (ok_known _ _ k) small h))

@@ -1,30 +1,22 @@
 -- `quick_reader::read_step` meets its contract: a short step, an add of a longer entry, or any. Assumes nothing.
-use native.Mathlib.Omega.{arith}
-use mathlib.Core.Path.{sym}
 use Rattle.model.proofs.Results.{reads_at}
-use Rattle.quick_reader.proofs.ShortSteps.{short_fits, short_length_most, short_read}
-use Rattle.quick_reader.proofs.LongAdds.{long_fits, long_length_most, long_read}
+use Rattle.quick_reader.proofs.ShortSteps.{short_read}
+use Rattle.quick_reader.proofs.LongAdds.{long_read}
+use Rattle.quick_reader.proofs.Readings.{is_read}
 use Rattle.quick_reader.proofs.read_step.Goals as goal
 
-pub overflow_add-result : goal.overflow_add-result
-overflow_add-result c =
-    let l = c.args.log.now in
-    omega (arith, c.byte_count.ensures, short_fits l c.args.at (sym c.if-is_short.ensures), short_length_most l c.args.at)
-
-pub returns-then-is_short : goal.returns-then-is_short
-returns-then-is_short c =
-    let t = reads_at _ _ (rw (c.step.ensures, c.byte_count.ensures) (sym (short_read c.args.log.now c.args.at (sym c.if-is_short.ensures)))) in
+pub returns-in-Some : goal.returns-in-Some
+returns-in-Some c =
+    let s = c.in-Some.short in
+    let here = c.in-Some.ensures.place in
+    let e = is_read (short_read s.log.now s.at s.is_short) c.reading.ensures.step c.reading.ensures.next in
+    let t = reads_at c.args.log.now c.args.at (rw (here.0, here.1) at e) in
     record { result_value = t.0; result_value_2 = t.1.0; result_value_3 = t.1.1.0; value = t.1.1.1 }
 
-pub overflow_add-result-then-is_long_add : goal.overflow_add-result-then-is_long_add
-overflow_add-result-then-is_long_add c =
-    let l = c.args.log.now in
-    omega (arith, c.byte_count-then-is_long_add.ensures, long_fits l c.args.at (sym c.if-is_long_add.ensures), long_length_most l c.args.at)
-
-pub returns-then-is_long_add : goal.returns-then-is_long_add
-returns-then-is_long_add c =
-    let t =
-    reads_at _ _
-    (rw (c.step-then-is_long_add.ensures, c.byte_count-then-is_long_add.ensures)
-    (sym (long_read c.args.log.now c.args.at (sym c.if-is_long_add.ensures)))) in
+pub returns-in-Some-at : goal.returns-in-Some-at
+returns-in-Some-at c =
+    let s = c.in-Some-at.add in
+    let here = c.in-Some-at.ensures.place in
+    let e = is_read (long_read s.log.now s.at s.is_long_add) c.reading-in-Some-at.ensures.step c.reading-in-Some-at.ensures.next in
+    let t = reads_at c.args.log.now c.args.at (rw (here.0, here.1) at e) in
     record { result_value = t.0; result_value_2 = t.1.0; result_value_3 = t.1.1.0; value = t.1.1.1 }

@@ -20,16 +20,16 @@ is_plan-requires c =
 pub returns-then-not-is_plan : goal.returns-then-not-is_plan
 returns-then-not-is_plan c =
     let n = count_passed _ (sym c.in_ok-shards.was ∙ c.shard_count.ensures) in
-    let t = no_plan _ _ n.0 n.1 c.is_plan.ensures c.if-not-is_plan.true-raw in
+    let t = no_plan _ _ n.0 n.1 c.is_plan.ensures c.if-not-is_plan.true in
     record { value = t.0; state_after = t.1 }
 
 pub write_state-requires : goal.write_state-requires
 write_state-requires c =
     let n = count_passed _ (sym c.in_ok-shards.was ∙ c.shard_count.ensures) in
-    may_write _ _ n.0 n.1 c.is_plan.ensures c.if-not-is_plan.false-raw
+    may_write _ _ n.0 n.1 c.is_plan.ensures c.if-not-is_plan.false
 
 pub returns : goal.returns
 returns c =
     let n = count_passed _ (sym c.in_ok-shards.was ∙ c.shard_count.ensures) in
-    let t = written _ _ n.0 n.1 c.is_plan.ensures c.if-not-is_plan.false-raw c.write_state.ensures in
+    let t = written _ _ n.0 n.1 c.is_plan.ensures c.if-not-is_plan.false c.write_state.ensures in
     record { value = t.0; state_after = t.1 }

@@ -3,4 +3,4 @@ use Rattle.numbers.proofs.NumberTurns.{Turn}
 use Rattle.numbers.proofs.read.read_more.Given as goal
 
 abbrev pub invariant-loop-n : goal.invariant-loop-n
-invariant-loop-n l = Turn l.log l.at l.low l.v l.w l.n
+invariant-loop-n l = Turn l.log l.low l.v l.w l.n

@@ -1,27 +1,18 @@
 -- Answers of `write_number`.
-use native.Mathlib.Omega.{arith}
-use Rattle.numbers.proofs.NumberWrites.{none_written, more_room, more_written, last_count, last_written}
+use Rattle.numbers.proofs.NumberWrites.{none_written, more_room, more_written, last_room, last_written}
 use Rattle.numbers.proofs.write.write_number.Goals as goal
 
 pub loop-rest-init : goal.loop-rest-init
-loop-rest-init c = none_written _ _ _ c.requires.0
+loop-rest-init c = none_written _ _ c.requires.0
 
-pub bounds-out-next : goal.bounds-out-next
-bounds-out-next c = omega (arith, more_room c.loop-rest.invariant c.loop-rest-test.true)
-
-pub overflow_add-next : goal.overflow_add-next
-overflow_add-next c = omega (arith, more_room c.loop-rest.invariant c.loop-rest-test.true)
+pub byte-requires : goal.byte-requires
+byte-requires c = more_room c.loop-rest.invariant c.loop-rest-test.true c.requires.1
 
 pub loop-rest-preserved : goal.loop-rest-preserved
-loop-rest-preserved c = more_written c.loop-rest.invariant c.loop-rest-test.true
+loop-rest-preserved c = more_written c.loop-rest.invariant c.loop-rest-test.true c.byte.ensures
 
-pub bounds-out-next-2 : goal.bounds-out-next-2
-bounds-out-next-2 c = omega (arith, last_count c.loop-rest.invariant c.loop-rest-test.false)
-
-pub overflow_add-result : goal.overflow_add-result
-overflow_add-result c = omega (arith, last_count c.loop-rest.invariant c.loop-rest-test.false)
+pub byte-requires-2 : goal.byte-requires-2
+byte-requires-2 c = last_room c.loop-rest.invariant c.loop-rest-test.false c.requires.1
 
 pub returns : goal.returns
-returns c =
-    let t = c.loop-rest.invariant in
-    record { value = last_count t c.loop-rest-test.false; out_after = last_written t c.loop-rest-test.false }
+returns c = last_written c.loop-rest.invariant c.loop-rest-test.false c.byte-2.ensures

@@ -1,10 +1,10 @@
--- `quick_reader::long::is_long_add` meets its contract: of three bytes joined, the entry's fifth is no larger. Assumes nothing.
+-- `quick_reader::long::LongAdd::at` meets its contract: of three bytes joined, the entry's fifth is no larger. Assumes nothing.
 use Prim.Native.Nat.{◌+◌}
 use native.Mathlib.Omega.{arith}
 use lib.Bits.{bit_or}
 use lib.ListN.{get_or}
 use Rattle.model.proofs.Joined.{right_most}
-use Rattle.quick_reader.proofs.long.is_long_add.Goals as goal
+use Rattle.quick_reader.proofs.long.LongAdd.at.Goals as goal
 
 pub last_byte-requires : goal.last_byte-requires
 last_byte-requires c =
