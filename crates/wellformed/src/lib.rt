@@ -4,6 +4,7 @@
 
 ghost use Rattle.std.specs.Prelude.{◌≡◌};
 ghost use Rattle.model.specs.WellFormed.{well_formed};
+ghost use Rattle.model.specs.Layout.{shards_of};
 ghost use Rattle.wellformed.specs.Checked.{shard_count_of, checked};
 
 use types::layout::SHARD_WORDS;
@@ -17,18 +18,29 @@ const FEWEST_SHARDS: usize = 2;
 
 const MOST_SHARDS: usize = 8;
 
-// The number of shards of a state of `len` words, or rejection 1. All lengths are compared, without a division and without an early exit: `find` or a
-// `match` takes three times as long where lengths change from call to call.
+// How many shards have a length together, 0 where no number of them has. All lengths are compared, without a division and without an early exit: `find`, a
+// `match` or an `Option` takes up to three times as long where lengths change from call to call.
+fn shards_of(len: usize) -> usize
+    ensures { result ≡ shards_of len }
+{
+    let mut count = 0;
+    for shards in FEWEST_SHARDS..=MOST_SHARDS {
+        if len == shards * SHARD_WORDS {
+            count = shards;
+        }
+    }
+    count
+}
+
+// The number of shards of a state of `len` words, or rejection 1.
 pub fn shard_count(len: usize) -> Result<usize, Rejection>
     ensures { result ≡ shard_count_of len }
 {
-    let mut count = None;
-    for shards in FEWEST_SHARDS..=MOST_SHARDS {
-        if len == shards * SHARD_WORDS {
-            count = Some(shards);
-        }
+    let shards = shards_of(len);
+    if shards == 0 {
+        return Err(Rejection::StateLength);
     }
-    count.ok_or(Rejection::StateLength)
+    Ok(shards)
 }
 
 // Whether a state is well-formed. Of a length that no state has this says nothing.
