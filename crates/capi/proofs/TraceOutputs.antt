@@ -45,9 +45,9 @@ module _ (w : List ℕ) (z i h : ℕ) (out : List ℕ) where
     unfolding boxes_copied boxes_left boxes_rejection
     refused {r} n = rejects r boxes out (rw (le-leb 7 (length out) room) (sym n))
 
-    pub copied : 0 ≡ trace_rejection w z i h → {l : List ℕ} → l ≡ traced w z i h → Copies (Ok (length l)) (l ++ drop (length l) out)
+    pub copied : 0 ≡ trace_rejection w z i h → (before : List ℕ) → {l : List ℕ} → l ≡ traced w z i h before → Copies (Ok (length l)) (l ++ drop (length l) out)
     unfolding boxes_copied boxes_left boxes_rejection listing_of after_listing_of answered traced
-    copied n e = (rw (le-leb 7 (length out) room, ← n, e, ← n), rw (le-leb 7 (length out) room, ← n, e, ← n))
+    copied n before e = (rw (le-leb 7 (length out) room, ← n, e, ← n), rw (le-leb 7 (length out) room, ← n, e, ← n))
 
   below : ltb (boxes_rejection w z i h out) 25 ≡ true
   unfolding boxes_rejection trace_rejection replica_checks first_of

@@ -21,14 +21,14 @@ use Rattle.histories.specs.Traces.{sources_of, trace_of, trace_rejection, traced
 use Rattle.histories.proofs.NamedReplicas.{IsNamed, is_named, found_at, found_not}
 use Rattle.histories.proofs.Traces.{started}
 
-module _ (w : List ℕ) (z i h : ℕ) where
+module _ (w : List ℕ) (z i h : ℕ) (before : List ℕ) where
   -- what is told: the number of the answer, and hosts
   abbrev Tells : ℕ → List ℕ → Type 0
-  Tells n l = (n ≡ trace_rejection w z i h) × (l ≡ traced w z i h)
+  Tells n l = (n ≡ trace_rejection w z i h) × (l ≡ traced w z i h before)
 
-  pub rejected : {r : Rejection} → Err r ≡ found_named w z i h → {l : List ℕ} → l ≡ [] → Tells (rejection_number r) l
+  pub rejected : {r : Rejection} → Err r ≡ found_named w z i h → Tells (rejection_number r) before
   unfolding traced trace_rejection
-  rejected {r} e q = let n = found_not w z i h e in (sym n, rw (n, number_not_0 r) q)
+  rejected {r} e = let n = found_not w z i h e in (sym n, rw (n, number_not_0 r))
 
   module _ {p : ℕ} (e : Ok p ≡ found_named w z i h) where
     at : IsNamed w z i h

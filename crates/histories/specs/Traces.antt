@@ -29,9 +29,9 @@ trace_rejection w z i h = first_of (replica_checks w z i h)
 abbrev pub most_hosts : ℕ
 most_hosts = 7
 
--- the hosts that the function tells for index i: those of the trace from configuration i − 1 on, or none at a rejection
-unfoldable pub traced : List ℕ → ℕ → ℕ → ℕ → List ℕ
-traced w z i h = cond (eqb (trace_rejection w z i h) 0) (trace_of w z (i - 1) h) []
+-- the hosts that the function tells for index i: those of the trace from configuration i − 1 on; at a rejection, what was there before
+unfoldable pub traced : List ℕ → ℕ → ℕ → ℕ → List ℕ → List ℕ
+traced w z i h before = cond (eqb (trace_rejection w z i h) 0) (trace_of w z (i - 1) h) before
 
 -- where the function inside begins: a member's replica that is not pending, in a well-formed state
 pub record Started (w : List ℕ) (z j h : ℕ) : Type 0 where

@@ -13,7 +13,8 @@ use types::rejection::Rejection;
 pub const MOST_HOSTS: usize = 7;
 
 // The trace of a host's replica, put into a vector in place of what it holds: hosts, nearest first, none where the replica is pending; or the rejection
-// (1, 7, 9, 10 or 11) and none. The vector is lent: given back by value, it is copied so often that a call from C needs more stack than the header tells.
+// (1, 7, 9, 10 or 11), which leaves the vector as it was. It is lent: given back by value, it is copied so often that a call from C needs more stack
+// than the header tells.
 pub fn trace(
     state: &[u64],
     shard: u64,
@@ -22,10 +23,10 @@ pub fn trace(
     hosts: &mut ArrayVec<u64, MOST_HOSTS>,
 ) -> Result<(), Rejection>
     ensures number { answer_number result ≡ trace_rejection state.now shard index host }
-    ensures hosts_after { hosts.new.items ≡ traced state.now shard index host }
+    ensures hosts_after { hosts.new.items ≡ traced state.now shard index host hosts.old.items }
 {
-    hosts.clear();
     let place = find_named(state, shard, index, host)?;
+    hosts.clear();
     if state[place] != PENDING {
         let at = Named {
             z: shard as usize,

@@ -19,7 +19,7 @@ returns-in_err-trace c =
 pub returns : goal.returns
 returns c =
     let n = sym (ap answer_number c.in_ok-trace.was) ∙ c.trace.ensures.number in
-    let t = copied _ _ _ _ c.args.out.now c.if-out-lt-MOST_HOSTS.false n c.trace.ensures.hosts_after in
+    let t = copied _ _ _ _ c.args.out.now c.if-out-lt-MOST_HOSTS.false n _ c.trace.ensures.hosts_after in
     record {
       value = rw c.len-2.ensures.value t.0;
       out_after = rw (c.len.ensures.value, c.copy_from_slice.ensures.after, c.deref.ensures.0) t.1;
