@@ -4,7 +4,7 @@ use Rattle.std.proofs.lemmas.List.Edits.{sets, sets-eq}
 use Rattle.std.proofs.lemmas.Slice.{put_mid-paste}
 use Rattle.std.proofs.lemmas.List.{take_all}
 use borrow.Rule.Slice.PartMut.{put_mid}
-use Rattle.model.proofs.Progress.{sets-append}
+use Rattle.model.proofs.StoreRuns.{sets-append}
 
 -- a part of an output that holds bytes now
 pub put_at : (xs ys bytes : List ℕ) (at k : ℕ) → k ≡ length bytes → at + k ≤ length xs → ys ≡ bytes → put_mid at k xs ys ≡ sets xs at bytes

@@ -3,10 +3,8 @@ ghost use Rattle.std.specs.Prelude.{◌≡◌};
 ghost use Rattle.histories.specs.NamedReplicas.{is_replica_name, found_named};
 
 use lookup::name::Named;
+use types::layout::HOSTS;
 use types::rejection::Rejection;
-
-// There are so many hosts.
-const HOSTS: u64 = 16;
 
 // The place of a host's replica, in a state of which nothing is known, or the rejection (1, 7, 9, 10 or 11).
 pub fn find_named(state: &[u64], shard: u64, index: u64, host: u64) -> Result<usize, Rejection>

@@ -85,9 +85,6 @@ module _ (w : List ℕ) (first size n own : ℕ) where
     fits : first + k * 64 + 64 ≤ length w
     fits = omega (arith, c.fits)
 
-    pub cuts_match : length (cut w n (first + k * 64)) ≡ length (cut w n own)
-    cuts_match = cut_length w n (first + k * 64) fits c.few ∙ sym (cut_length w n own c.own_fits c.few)
-
     pub begun : {p : ℕ} → p ≡ agreeing (cut w n (first + k * 64)) (cut w n own) → Entries w n own (first + k * 64) p
     begun e = rw e (agreed w n own (first + k * 64) fits c.few)
 

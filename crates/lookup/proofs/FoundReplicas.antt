@@ -27,10 +27,6 @@ pub small_place : {w : List ℕ} {z j : ℕ} → Ready w z j → (configuration 
 unfolding configuration place
 small_place r = omega (arith, r.shard, r.state.most, r.configuration)
 
--- the first words are a place, whatever the state
-pub start_placed : {w : List ℕ} {z j : ℕ} → Ready w z j → Placed w 0
-start_placed r = record { fits = omega (arith, r.state.long, r.state.several) }
-
 -- a member's replica is placed
 pub member_placed : {w : List ℕ} {z j : ℕ} → Ready w z j → (h : ℕ) → has_member (members w z j) h ≡ true → Placed w (replica_place (configuration w z j) h)
 member_placed {w} {z} {j} r h e =

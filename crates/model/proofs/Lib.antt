@@ -14,7 +14,7 @@ pub mod Places
 pub mod Lengths
 pub mod Heads
 pub mod Alike
-pub mod Progress
+pub mod StoreRuns
 -- Well-formed states
 pub mod Entries
 pub mod Origins

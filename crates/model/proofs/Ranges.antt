@@ -36,9 +36,6 @@ more i f e d = sym (one_more i f ∙ (both (all_below i f) (f i)).1 (sym e, sym 
 pub fails : (n i : ℕ) (f : ℕ → Bool) → i < n → false ≡ f i → false ≡ all_below n f
 fails n i f l d = not_passed (all_below n f) (λ e. false≢true (d ∙ all_below_lem n f e i l))
 
-pub reached : (n i : ℕ) (f : ℕ → Bool) (b : Bool) → i ≤ n → n ≤ i → b ≡ all_below i f → b ≡ all_below n f
-reached n i f b l m e = subst (λ (k : ℕ). b ≡ all_below k f) (omega arith) e
-
 -- two tests that agree below n pass there together
 pub alike : (n : ℕ) (f g : ℕ → Bool) → ((i : ℕ) → i < n → f i ≡ g i) → all_below n f ≡ all_below n g
 alike n f g h =

@@ -93,8 +93,3 @@ below_any (suc n) f i h e = go (dec_lt i n) (below_any n f i)
     go : Dec (i < n) → (i < n → f i ≡ true → any_below n f ≡ true) → any_below n f || f n ≡ true
     go (yes l) rest = rw (rest l e)
     go (no l) rest = let q : i ≡ n = omega arith in rw (sym q, e, or-true)
-
-pub none_below : (n : ℕ) (f : ℕ → Bool) → ((i : ℕ) → i < n → f i ≡ false) → any_below n f ≡ false
-unfolding any_below
-none_below zero f h = refl
-none_below (suc n) f h = rw (none_below n f (λ i l. h i (omega arith)), h n (le_refl (suc n)))

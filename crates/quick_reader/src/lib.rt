@@ -13,8 +13,8 @@ use crate::short::Short;
 use types::Reading;
 use types::rejection::Rejection;
 
-pub mod long;
-pub mod short;
+mod long;
+mod short;
 
 // So many bytes are looked at: no short step has more, and no add whose shard and index have one byte each.
 const WINDOW: usize = 8;

@@ -71,11 +71,6 @@ module _ (Z : ℕ) (plan w : List ℕ) (h : length w ≡ Z * 2112) where
         words = ap (put_mid (z * 2112) (z * 2112 + 2112 - z * 2112) v) e ∙ written z v s;
       }
 
-  pub all_written : (z : ℕ) (v : List ℕ) → z ≡ Z → Written Z plan w z v → v ≡ initial_state Z plan
-  all_written z v e s =
-      s.words ∙ ap (λ (l : List ℕ). initial_state z plan ++ l) (drop_of_length-le w {i = z * 2112} (omega arith))
-      ∙ append-nil (initial_state z plan) ∙ ap (λ (n : ℕ). initial_state n plan) e
-
   -- where they were all 0, the words of shard z still are
   pub still_zero : (z : ℕ) (v : List ℕ) → w ≡ replicate (Z * 2112) 0 → z < Z → Written Z plan w z v
       → take (z * 2112 + 2112 - z * 2112) (drop (z * 2112) v) ≡ replicate 2112 0

@@ -1,10 +1,10 @@
 -- Entries copied to an output: what is answered and left, by the test of the output's room.
-use Prim.Native.Nat.{ℕ, ◌+◌, ◌-◌, ◌≤◌, ◌<◌}
+use Prim.Native.Nat.{ℕ, ◌≤◌, ◌<◌}
 use mathlib.Core.Path.{◌≡◌, refl}
 use mathlib.Core.Bool.{true}
 use mathlib.Core.List.{List, [], ◌∷◌, ◌++◌}
 use lib.Dec.{ltb}
-use lib.ListN.{length, get_or, take, drop}
+use lib.ListN.{length, drop}
 use borrow.Author.Tests.{le-leb, lt-leb}
 use Rattle.model.specs.Checks.{first_of}
 use Rattle.model.specs.Results.{count_beside}
@@ -15,8 +15,7 @@ use Rattle.types.specs.Rejections.{Written, rejection_number, answered, answer_n
 use Rattle.types.proofs.Rejections.{number_not_0, rejected_answer}
 use Rattle.model.proofs.Results.{first_below, counted}
 use Rattle.stable_entries.specs.Listing.{has_room, listing_of, after_listing_of}
-use Rattle.stable_entries.specs.StableEntries.{entries_at, HasEntries, copying_rejection, copied_count, copying, after_copying}
-use Rattle.stable_entries.proofs.Stable.{entries_part, entries_length}
+use Rattle.stable_entries.specs.StableEntries.{entries_at, copying_rejection, copied_count, copying, after_copying}
 
 -- a rejection is told, and leaves the output
 pub rejects : (r : Rejection) (l out : List ℕ) {rejection : ℕ} → rejection ≡ rejection_number r
@@ -36,22 +35,11 @@ pub copied : {r : Written} {v : List ℕ} (w : List ℕ) (p : ℕ) (out : List �
 unfolding copying after_copying copied_count copying_rejection has_room
 copied w p out e f = told (copying_rejection w p out) (entries_at w p) out (first_below (has_room (entries_at w p) out ∷ []) refl) e f
 
-module _ (w : List ℕ) (p : ℕ) (out : List ℕ) (h : HasEntries w p) where
-  -- how many entries there are
-  abbrev count : ℕ
-  count = get_or w (p + 2) 0
-
-  many : length (entries_at w p) ≡ count
-  many = entries_length w p h.fits h.few
-
-  pub rejects_room : length out < count → (Err OutputLength ≡ copying w p out) × (out ≡ after_copying w p out)
+module _ (w : List ℕ) (p : ℕ) (out : List ℕ) {l : List ℕ} (e : l ≡ entries_at w p) where
+  pub rejects_room : length out < length l → (Err OutputLength ≡ copying w p out) × (out ≡ after_copying w p out)
   unfolding copying after_copying copying_rejection first_of has_room
-  rejects_room r = rejects OutputLength (entries_at w p) out (rw (many, lt-leb count (length out) r))
+  rejects_room r = rejects OutputLength (entries_at w p) out (rw (← e, lt-leb (length l) (length out) r))
 
-  -- the words that are copied
-  abbrev words : List ℕ
-  words = take (p + 8 + count - (p + 8)) (drop (p + 8) w)
-
-  pub copies : count ≤ length out → (l : List ℕ) → l ≡ words → (Ok count ≡ copying w p out) × (l ++ drop count out ≡ after_copying w p out)
+  pub copies : length l ≤ length out → (Ok (length l) ≡ copying w p out) × (l ++ drop (length l) out ≡ after_copying w p out)
   unfolding copying after_copying copying_rejection listing_of after_listing_of answered first_of has_room
-  copies r l e = (simp (many, le-leb count (length out) r), simp (e, entries_part w p, many, le-leb count (length out) r))
+  copies r = (simp (← e, le-leb (length l) (length out) r), simp (← e, le-leb (length l) (length out) r))

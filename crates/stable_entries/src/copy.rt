@@ -3,7 +3,7 @@ ghost use Rattle.std.specs.Prelude.{◌≡◌};
 ghost use Rattle.types.specs.Rejections.{answer_number, answer_count};
 ghost use Rattle.stable_entries.specs.StableEntries.{HasEntries, copying_rejection, copied_count, copying, after_copying};
 
-use types::layout::{ENTRIES, STABLE};
+use crate::history::stable_prefix;
 use types::rejection::Rejection;
 
 // The stable prefix of the replica at a place: how many entries were copied, or rejection 8 and the output untouched.
@@ -14,12 +14,11 @@ pub fn copy_entries(state: &[u64], place: usize, out: &mut [u64]) -> Result<usiz
     ensures value { result ≡ copying state.now place out.old }
     ensures out_after { out.new ≡ after_copying state.now place out.old }
 {
-    let count = state[place + STABLE] as usize;
+    let entries = stable_prefix(state, place);
+    let count = entries.len();
     if out.len() < count {
         return Err(Rejection::OutputLength);
     }
-    let from = place + ENTRIES;
-    let end = from + count;
-    out[..count].copy_from_slice(&state[from..end]);
+    out[..count].copy_from_slice(entries);
     Ok(count)
 }

@@ -10,22 +10,18 @@ ghost use Rattle.model.specs.Steps.{are_numbers};
 ghost use Rattle.step_numbers.specs.StepRanges.{is_index_of, range_rejection};
 
 use types::kind::Kind;
+use types::layout::{CONFIGURATIONS, HOSTS};
 use types::rejection::Rejection;
 use types::step::Step;
 
 pub mod acting;
-
-// A shard has so many configurations. Hosts are 0 to 15.
-const CONFIGURATIONS: u64 = 8;
-
-const HOSTS: u64 = 16;
 
 // Whether a shard and an index are in range.
 #[tactic(auto, unfolding(crate::specs::StepRanges::is_index_of))]
 pub fn is_index_of(shards: usize, shard: u64, index: u64) -> bool
     ensures { result ≡ is_index_of shards shard index }
 {
-    shard < shards as u64 && 1 <= index && index <= CONFIGURATIONS
+    shard < shards as u64 && 1 <= index && index <= CONFIGURATIONS as u64
 }
 
 // Whether the third and fourth number suit a kind: the third is a host or an entry, the fourth is at most the kind's largest, 0 where it is not used.

@@ -12,7 +12,7 @@ use Rattle.types.specs.declared.Stop.{Stop}
 use Rattle.model.specs.Steps.{rejection, after}
 use Rattle.model.specs.Log.{one_step, read_at, read_log, stopped}
 use Rattle.model.specs.Transcript.{step_lines, program_budget}
-use Rattle.model.proofs.Progress.{sets-append}
+use Rattle.model.proofs.StoreRuns.{sets-append}
 use Rattle.lookup.specs.Ready.{Formed}
 use Rattle.replay.specs.Run.{report_of, run_report, after_run}
 use Rattle.replay.proofs.Rest.{reads_step, stops}

@@ -31,7 +31,7 @@ rejection_number IssuedBefore = 22
 rejection_number RivalIssue = 23
 rejection_number NotWedged = 24
 
--- the rejection that a number names; a number above 24 names none
+-- the rejection that a number names; of 0 and the numbers above 24, which name none, it is asked for nowhere
 unfoldable pub numbered : ℕ → Rejection
 numbered n =
     cond (eqb n 1) StateLength
