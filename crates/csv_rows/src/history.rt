@@ -10,7 +10,7 @@ use decimal_text::text::Text;
 // Places count from 0.
 const FIRST_PLACE: u64 = 0;
 
-// How long the rows of a history are.
+// How long the rows of a history are. This is asked only for an output that may be too short, so lengths are not counted with the bytes.
 #[tactic(auto, using(crate::proofs::TextParts::history_parts, crate::proofs::RowTexts::history_bytes))]
 pub fn history_length(shard: u64, entries: &[u64]) -> usize
     requires { length entries.now ≤ most_entries }

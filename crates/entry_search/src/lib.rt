@@ -1,5 +1,5 @@
-// Entries looked for in a history: an entry itself, or an issue for a shard and an index. A history is mostly gone through to its end, so the tests are
-// joined without an early exit, which the compiler turns into vectors.
+// Entries looked for in a history: an entry itself, or an issue for a shard and an index. A history is mostly gone through to its end, so the tests
+// are joined without an early exit, which the compiler turns into vectors.
 
 #![tactic(auto)]
 

@@ -1,4 +1,5 @@
-// Lists read off a state: a shard's stable history, a replica's stable prefix, which is what a host shows, and the hosts from which a replica's history came.
+// Lists read off a state: a shard's stable history, a replica's stable prefix, which is what a host shows, and the hosts from which a replica's
+// history came.
 
 #![tactic(auto)]
 

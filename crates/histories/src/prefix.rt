@@ -7,8 +7,8 @@ use crate::named::find_named;
 use stable_entries::copy::copy_entries;
 use types::rejection::Rejection;
 
-// Copies the stable prefix of a host's replica to the start of an output: how many entries it has; a rejection (1, 7, 9, 10, 11 or 8) leaves the output
-// untouched.
+// Copies the stable prefix of a host's replica to the start of an output: how many entries it has; a rejection (1, 7, 9, 10, 11 or 8) leaves the
+// output untouched.
 pub fn stable_prefix(
     state: &[u64],
     shard: u64,

@@ -6,15 +6,15 @@ ghost use Rattle.histories.specs.Traces.{sources_of, trace_rejection, traced, St
 use crate::named::find_named;
 use arrayvec::ArrayVec;
 use lookup::name::Named;
-use types::layout::{ORIGIN, PENDING};
+use types::layout::{CONFIGURATIONS, ORIGIN, PENDING};
 use types::rejection::Rejection;
 
 // A trace has at most so many hosts: one for each configuration after the first.
-pub const MOST_HOSTS: usize = 7;
+pub const MOST_HOSTS: usize = CONFIGURATIONS - 1;
 
-// The trace of a host's replica, put into a vector in place of what it holds: hosts, nearest first, none where the replica is pending; or the rejection
-// (1, 7, 9, 10 or 11), which leaves the vector as it was. It is lent: given back by value, it is copied so often that a call from C needs more stack
-// than the header tells.
+// The trace of a host's replica, put into a vector in place of what it holds: hosts, nearest first, none where the replica is pending; or the
+// rejection (1, 7, 9, 10 or 11), which leaves the vector as it was. It is lent: given back by value, it is copied so often that a call from C needs
+// more stack than the header tells.
 pub fn trace(
     state: &[u64],
     shard: u64,

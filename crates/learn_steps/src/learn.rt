@@ -11,8 +11,8 @@ use types::kind::Kind;
 use types::layout::{ACTIVE, ENTRIES, LENGTH, REPLICA_WORDS, STABLE};
 use types::rejection::Rejection;
 
-// Whether the `size` replicas from `first` on have n entries at least, and the first n like those of the replica at `own`. Entries are compared one by
-// one from the first that `agreeing` does not tell of, and both loops are left by the label at the first that differs.
+// Whether the `size` replicas from `first` on have n entries at least, and the first n like those of the replica at `own`. Entries are compared one
+// by one from the first that `agreeing` does not tell of, and both loops are left by the label at the first that differs.
 fn all_alike(state: &[u64], first: usize, size: usize, n: usize, own: usize) -> bool
     requires { Compared state.now first size n own }
     ensures { result ≡ all_alike_at state.now first size n own }

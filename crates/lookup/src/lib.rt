@@ -1,4 +1,5 @@
 // Looking into a well-formed state: configurations by value, and where a host's replica is. No entry point: callers have tested the state.
+// A struct that holds the state would ask every contract for a clause that its words are the same, so the state goes beside what is named.
 
 #![tactic(auto)]
 

@@ -23,8 +23,8 @@ pub fn step(state: &mut [u64], s: Step) -> Result<(), Rejection>
     step_on(state, shards, s)
 }
 
-// The same on a state that has so many shards. Kind, shard and index are tested before the state is scanned, the other numbers after it: on a
-// well-formed state by the step's kind.
+// The same on a state that has so many shards, which are counted once and go along. Kind, shard and index are tested before the state is scanned, the
+// other numbers after it: on a well-formed state by the step's kind.
 fn step_on(state: &mut [u64], shards: usize, s: Step) -> Result<(), Rejection>
     requires { HasShards state.old shards }
     ensures value { answer_number result ≡ rejection state.old s }

@@ -23,7 +23,7 @@ const WINDOW: usize = 8;
 const TOP_BIT: u8 = 128;
 
 // The step at a position of a log, with the position after it, or nothing where the log ends there. It is put into the loops over logs: as a call it
-// would cost them up to a quarter of their time.
+// would cost them up to a quarter of their time. So are the methods of `Short` and `LongAdd`.
 #[inline(always)]
 pub fn read_step(log: &[u8], at: usize) -> Result<Option<Reading>, Rejection>
     ensures result_value { answer_number result ≡ read_rejection (drop at log.now) }

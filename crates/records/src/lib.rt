@@ -12,8 +12,8 @@ use types::rejection::Rejection;
 
 mod text;
 
-// Writes the text of a state: its length, or the rejection (1, 9 or 8), which leaves the output untouched. The text is measured only where it might not
-// fit.
+// Writes the text of a state: its length, or the rejection (1, 9 or 8), which leaves the output untouched. The text is measured only where it might
+// not fit.
 pub fn csv(state: &[u64], out: &mut [u8]) -> Result<usize, Rejection>
     ensures result_value { answer_number result ≡ csv_rejection state.now out.old }
     ensures result_value_2 { answer_count result ≡ csv_count state.now out.old }

@@ -6,11 +6,12 @@ ghost use Rattle.std.specs.Prelude.{◌≡◌, ◌<◌, IfSome, unwrap_or};
 ghost use Rattle.rejection_hosts.specs.RejectionHosts.{RejectedStep, orderer_named, count_of, no_host};
 
 use lookup::name::Named;
+use types::layout::HOSTS;
 use types::rejection::Rejection;
 use types::step::Step;
 
-// Hosts are 0 to 15. The number after them is no host's.
-const NO_HOST: u64 = 16;
+// The number after the hosts' is no host's.
+const NO_HOST: u64 = HOSTS;
 
 // The host that a rejection counts for: the acting host; of an add, the orderer of the configuration named. None where no host, or no host's number,
 // is named.

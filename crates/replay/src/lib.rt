@@ -1,4 +1,4 @@
-// The log run: steps are read and tried in order, on a state that is scanned once.
+// A replay: steps are read and tried in order, on a state that is scanned once.
 
 #![tactic(auto)]
 
@@ -14,8 +14,8 @@ use quick_reader::read_step;
 use types::rejection::Rejection;
 use types::{Report, Stop};
 
-// Replays a log with a budget of steps: how it stopped, the steps tried, those rejected, and the bytes of whole steps; or the rejection (1 or 9), with
-// nothing tried.
+// Replays a log with a budget of steps: how it stopped, the steps tried, those rejected, and the bytes of whole steps; or the rejection (1 or 9),
+// with nothing tried.
 pub fn replay(state: &mut [u64], log: &[u8], budget: u64) -> Result<Report, Rejection>
     ensures stop_value { report_number result ≡ replay_number state.old log.now budget }
     ensures stop_value_2 { report_code result ≡ replay_code state.old log.now budget }

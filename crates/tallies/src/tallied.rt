@@ -24,7 +24,8 @@ pub struct Tallied {
     pub tally: Tally,
 }
 
-// Replays a log with a budget of steps, as `replay` does. The tally is started from zero and counts the rejections; a replay that is rejected leaves it.
+// Replays a log with a budget of steps, as `replay` does. The tally is started from zero and counts the rejections; a replay that is rejected leaves
+// it.
 pub fn replay_tally(
     state: &mut [u64],
     log: &[u8],
@@ -40,7 +41,8 @@ pub fn replay_tally(
     Ok(run(state, shards, log, budget, tally))
 }
 
-// The same on a state that is known to be well-formed, of so many shards, with nothing counted yet.
+// The same on a state that is known to be well-formed, of so many shards, with nothing counted yet. A loop of its own beside the one of `replay`,
+// which counts for no host.
 fn run(state: &mut [u64], shards: usize, log: &[u8], budget: u64, tally: &mut Tally) -> Report
     requires formed { Formed state.old }
     requires count { shards ≡ shards_of (length state.old) }
@@ -72,7 +74,7 @@ fn run(state: &mut [u64], shards: usize, log: &[u8], budget: u64, tally: &mut Ta
     stopped(stop, budget, rejected, at)
 }
 
-// The same on a tally by value.
+// The same on a tally by value, as C's function has it: its tally comes and goes as words.
 pub fn replay_by_value(state: &mut [u64], log: &[u8], budget: u64, tally: Tally) -> Tallied
     ensures returns { Returns state.old log.now budget result.report }
     ensures tally_value { result.tally ≡ tally_after tally state.old log.now budget }

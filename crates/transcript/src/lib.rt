@@ -19,8 +19,8 @@ pub const LONGEST_LOG: usize = 16384;
 // No text is longer: the law `text_most_lem`.
 pub const MOST: usize = 42232;
 
-// Writes the text of a log: its length, or rejection 8 where the output is too short, which leaves it untouched. An output that is long enough for any
-// text is written at once, another one from a space of its own.
+// Writes the text of a log: its length, or rejection 8 where the output is too short, which leaves it untouched. An output that is long enough for
+// any text is written at once, another one from a space of its own.
 pub fn transcript(log: &[u8], out: &mut [u8]) -> Result<usize, Rejection>
     ensures result_value { answer_number result ≡ text_rejection out.old (transcript log.now) }
     ensures result_value_2 { answer_count result ≡ text_count out.old (transcript log.now) }

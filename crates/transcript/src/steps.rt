@@ -18,8 +18,8 @@ use types::{Report, Stop};
 // How many steps the program tries at most.
 const BUDGET: u64 = 65535;
 
-// Tries the steps of a log on a well-formed state of so many shards, as many as the budget allows, and appends a line for each: how the run stopped, the
-// steps tried, those rejected, and the bytes of whole steps.
+// Tries the steps of a log on a well-formed state of so many shards, as many as the budget allows, and appends a line for each: how the run stopped,
+// the steps tried, those rejected, and the bytes of whole steps. A loop of its own beside the one of `replay`, which keeps no answer.
 pub fn append_steps(text: &mut Text<'_>, state: &mut [u64], shards: usize, log: &[u8]) -> Report
     requires formed { Formed state.old }
     requires count { shards ≡ shards_of (length state.old) }

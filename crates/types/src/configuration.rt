@@ -35,6 +35,7 @@ impl Members {
     }
 }
 
+// The member set is a word here, as in the definitions of configurations.
 #[derive(Clone, Copy, Debug, PartialEq, Eq)]
 pub struct Configuration {
     pub place: usize,

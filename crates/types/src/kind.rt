@@ -22,7 +22,7 @@ pub enum NoKind {
 }
 
 // What the steps of a kind have: how many numbers they use, the largest fourth number (0 where they use none), and whether the third number is the
-// acting host.
+// acting host. These are columns of the papers' table, in which 0 also bounds a fourth number that is not used.
 #[derive(Clone, Copy, Debug, PartialEq, Eq)]
 pub struct Rules {
     pub used: usize,
@@ -49,6 +49,7 @@ impl TryFrom<u64> for Kind {
             6 => Ok(Kind::Inherit),
             7 => Ok(Kind::CatchUp),
             8..=31 => Err(NoKind::Kept),
+            // 0 has an arm of its own, as the papers list the cases.
             0 => Err(NoKind::Unknown),
             _ => Err(NoKind::Unknown),
         }

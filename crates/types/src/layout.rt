@@ -1,4 +1,4 @@
-// Where a state's words are, and how many: the numbers of `Layout` and `Replicas` of `model`, by the same names.
+// Where a state's words are, and how many: the numbers of `Layout` and `Replicas` of `model`.
 
 // Hosts are the numbers below this one.
 pub const HOSTS: u64 = 16;
@@ -41,7 +41,7 @@ pub const ENTRIES: usize = 8;
 // A history has at most so many entries.
 pub const MOST_ENTRIES: u64 = 56;
 
-// Modes of a replica. An unused one has mode 0.
+// Modes of a replica. An unused one has mode 0. They are words and no enum: a state is any words of the caller, which its check compares.
 pub const PENDING: u64 = 1;
 
 pub const ACTIVE: u64 = 2;

@@ -7,37 +7,37 @@ use crate::kind::NoKind;
 #[derive(Clone, Copy, Debug, PartialEq, Eq)]
 pub enum Rejection {
     // 1, 2: the length of a state, and a plan.
-    StateLength,
-    Plan,
+    StateLength = 1,
+    Plan = 2,
     // 3, 4: the number of a step's kind.
-    KeptKind,
-    UnknownKind,
+    KeptKind = 3,
+    UnknownKind = 4,
     // 5, 6: the bytes of a log.
-    LogEnds,
-    NumberForm,
+    LogEnds = 5,
+    NumberForm = 6,
     // 7 to 9: a number, an output, a state.
-    OutOfRange,
-    OutputLength,
-    NotWellFormed,
+    OutOfRange = 7,
+    OutputLength = 8,
+    NotWellFormed = 9,
     // 10 to 14: the replica of the acting host, and the other one.
-    NotInstalled,
-    NotMember,
-    WrongMode,
-    NoSource,
-    IsOrderer,
+    NotInstalled = 10,
+    NotMember = 11,
+    WrongMode = 12,
+    NoSource = 13,
+    IsOrderer = 14,
     // 15 to 17: an entry that is added.
-    EntryHeld,
-    HistoryFull,
-    NotSequencer,
+    EntryHeld = 15,
+    HistoryFull = 16,
+    NotSequencer = 17,
     // 18, 19: a stable length that is learned.
-    NotLonger,
-    NotAlike,
+    NotLonger = 18,
+    NotAlike = 19,
     // 20 to 24: an issue that is installed or added.
-    NoIssue,
-    WrongIndex,
-    IssuedBefore,
-    RivalIssue,
-    NotWedged,
+    NoIssue = 20,
+    WrongIndex = 21,
+    IssuedBefore = 22,
+    RivalIssue = 23,
+    NotWedged = 24,
 }
 
 impl From<Rejection> for u64 {
@@ -45,32 +45,7 @@ impl From<Rejection> for u64 {
 
     // Its number, 1 to 24.
     fn from(rejection: Rejection) -> u64 {
-        match rejection {
-            Rejection::StateLength => 1,
-            Rejection::Plan => 2,
-            Rejection::KeptKind => 3,
-            Rejection::UnknownKind => 4,
-            Rejection::LogEnds => 5,
-            Rejection::NumberForm => 6,
-            Rejection::OutOfRange => 7,
-            Rejection::OutputLength => 8,
-            Rejection::NotWellFormed => 9,
-            Rejection::NotInstalled => 10,
-            Rejection::NotMember => 11,
-            Rejection::WrongMode => 12,
-            Rejection::NoSource => 13,
-            Rejection::IsOrderer => 14,
-            Rejection::EntryHeld => 15,
-            Rejection::HistoryFull => 16,
-            Rejection::NotSequencer => 17,
-            Rejection::NotLonger => 18,
-            Rejection::NotAlike => 19,
-            Rejection::NoIssue => 20,
-            Rejection::WrongIndex => 21,
-            Rejection::IssuedBefore => 22,
-            Rejection::RivalIssue => 23,
-            Rejection::NotWedged => 24,
-        }
+        rejection as u64
     }
 }
 

@@ -5,7 +5,8 @@ ghost use Rattle.types.specs.StepNames.{shard_of, acting_host};
 
 use crate::kind::Kind;
 
-// The kind is any number: a step of no kind is tried too, and rejected.
+// The kind is any number: a step of no kind is tried too, and rejected. Then come the shard, the index, the third number, which is a host or an
+// entry, and the fourth.
 #[derive(Clone, Copy, Debug, PartialEq, Eq)]
 pub struct Step {
     pub kind: u64,
@@ -34,7 +35,7 @@ impl Step {
         }
     }
 
-    // How many numbers the step uses, none where its kind is no kind's number.
+    // How many numbers the step uses, none where its kind is no kind's number. The papers name this method; writers of steps ask the kind.
     pub fn used(self) -> usize
         ensures { result ≡ used_numbers (kind_of self.kind) }
     {

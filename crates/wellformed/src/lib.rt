@@ -18,8 +18,8 @@ const FEWEST_SHARDS: usize = 2;
 
 const MOST_SHARDS: usize = 8;
 
-// How many shards have a length together, 0 where no number of them has. All lengths are compared, without a division and without an early exit: `find`, a
-// `match` or an `Option` takes up to three times as long where lengths change from call to call.
+// How many shards have a length together, 0 where no number of them has. All lengths are compared, without a division and without an early exit:
+// `find`, a `match` or an `Option` takes up to three times as long where lengths change from call to call.
 fn shards_of(len: usize) -> usize
     ensures { result ≡ shards_of len }
 {

@@ -18,8 +18,8 @@ use wellformed_entries::zero::all_zero;
 use wellformed_origins::origin;
 use wellformed_replicas::replica;
 
-// Whether the first `size` replicas at a place are those of members of configuration j. Replicas mostly agree: a history that was tested entry by entry
-// is known, and the others are held against it first.
+// Whether the first `size` replicas at a place are those of members of configuration j. Replicas mostly agree: a history that was tested entry by
+// entry is known, and the others are held against it first. At first an empty one is: it tells nothing.
 fn all_replicas(state: &[u64], shards: usize, j: usize, place: usize, size: usize) -> bool
     requires { place + size * part_words ≤ length state.now }
     ensures { result ≡ all_below size (λ k. is_part shards j true (part state.now (place + k * part_words))) }

@@ -1,5 +1,6 @@
 // The origin of a replica, its word 3: the host of the configuration before from which it began, plus 1.
-// The state and the configuration are two parameters, since a struct's clauses would say `self.entry.state.now`, `self.entry.at.z`, `self.entry.at.j`.
+// The state and the configuration are two parameters, since a struct's clauses would say `self.entry.state.now`, `self.entry.at.z`,
+// `self.entry.at.j`.
 ghost use Rattle.std.specs.Prelude.{◌≡◌, not, ◌≤◌, ◌<◌};
 ghost use Rattle.model.specs.Tests.{all_below};
 ghost use Rattle.model.specs.Replicas.{is_pending};

@@ -1,4 +1,4 @@
-// A tally in seventeen words of an output: the counts of boxes 0 to 15, and that of no box.
+// A tally in seventeen words of an output: the counts of hosts 0 to 15, and that of no host.
 ghost use Rattle.std.specs.Prelude.{◌≡◌, ◌≤◌, length};
 ghost use Rattle.std.proofs.lemmas.List.Edits.{sets};
 ghost use Rattle.word_outputs.specs.TallyWords.{tally_words, tally_in};
