@@ -19,7 +19,7 @@ pub fn are_alike(a: &[u64], b: &[u64]) -> bool
 }
 
 // How many first words of two lists agree, told in turns of eight, the last one with the last eight words: all, or those before the first turn that
-// differs. Of fewer than eight words it tells nothing.
+// differs. Of fewer than eight words it tells nothing. Turns are counted, and no chunks: the last one may overlap the one before.
 pub fn agreeing(a: &[u64], b: &[u64]) -> usize
     requires { length a.now ≡ length b.now }
     ensures { result ≡ agreeing a.now b.now }

@@ -29,6 +29,7 @@ pub fn number_length(n: u64) -> usize
 }
 
 // Appends the bytes of a number. It is put into the writer of steps: as a call it makes them up to a seventh slower, with the position in memory.
+// How many groups there are is told only by dividing, so the loop goes through no range.
 #[inline(always)]
 pub fn write_number(out: &mut Text, n: u64)
     requires { (n < 2 ^ 35) × HasRoom out.old (number_bytes n) }

@@ -10,7 +10,7 @@ use std::io;
 use std::io::{ErrorKind, Read};
 
 // Reads until the buffer is full or the input ends, and returns how many bytes were read. An error tells why not: that of a read that failed for
-// good, or another where no turn was left. Then some first bytes may have been read.
+// good, or another where no turn was left. Then some first bytes may have been read. The library's `read_exact` takes a short input for an error.
 pub fn read_all<R: Read>(from: &mut R, buf: &mut [u8]) -> io::Result<usize>
     ensures within { IfOk result (λ count. IsPrefixLen count buf.new) }
     ensures bytes { IfOk result (λ count. Consumes (R.remaining from.old) (R.remaining from.new) (take count buf.new)) }

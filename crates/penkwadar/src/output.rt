@@ -10,7 +10,7 @@ use std::io;
 use std::io::{ErrorKind, Write};
 
 // Writes all bytes. An error tells why not: that of a write that failed for good, or another where a write took nothing or no turn was left. Then
-// some first bytes may have been written.
+// some first bytes may have been written. The library's `write_all` gives up on an output that takes nothing for now, and does not say what it took.
 pub fn write_all<W: Write>(to: &mut W, bytes: &[u8]) -> io::Result<()>
     ensures ok { OnOk result (Appends (W.contents to.old) (W.contents to.new) bytes.now) }
     ensures err { OnErr result (AppendsSome (W.contents to.old) (W.contents to.new) bytes.now) }

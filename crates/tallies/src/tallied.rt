@@ -18,7 +18,7 @@ use types::rejection::Rejection;
 use types::{Report, Stop};
 
 // What a replay on a tally by value returns.
-#[derive(Drop)]
+#[derive(Debug, Drop, PartialEq, Eq)]
 pub struct Tallied {
     pub report: Result<Report, Rejection>,
     pub tally: Tally,

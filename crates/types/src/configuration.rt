@@ -14,7 +14,7 @@ impl Members {
     pub fn size(self) -> u32
         ensures { result ≡ size self.0 }
     {
-        u64::count_ones(self.0)
+        self.0.count_ones()
     }
 
     // Whether a host is in the set.
@@ -31,7 +31,7 @@ impl Members {
         requires { host < 16 }
         ensures { result ≡ replica_number self.0 host }
     {
-        u64::count_ones(self.0 % (1 << host))
+        (self.0 % (1 << host)).count_ones()
     }
 }
 
