@@ -18,6 +18,7 @@ const ORDERER: u64 = 65536;
 pub const SHARD_BIT: u64 = 20;
 
 // Whether a word is an issue's, of whatever content.
+#[tactic(auto, unfolding(model::specs::Entries::is_issue))]
 pub fn is_issue(e: u64) -> bool
     ensures { result ≡ is_issue e }
 {
@@ -25,6 +26,7 @@ pub fn is_issue(e: u64) -> bool
 }
 
 // The index that an issue is for.
+#[tactic(auto, unfolding(model::specs::Entries::issue_index))]
 pub fn issue_index(e: u64) -> u64
     ensures { result ≡ issue_index e }
 {
@@ -32,6 +34,7 @@ pub fn issue_index(e: u64) -> u64
 }
 
 // The shard that an issue is for.
+#[tactic(auto, unfolding(model::specs::Entries::issue_shard))]
 pub fn issue_shard(e: u64) -> u64
     ensures { result ≡ issue_shard e }
 {
@@ -39,6 +42,7 @@ pub fn issue_shard(e: u64) -> u64
 }
 
 // The orderer that an issue appoints.
+#[tactic(auto, unfolding(model::specs::Entries::issue_orderer))]
 pub fn issue_orderer(e: u64) -> u64
     ensures { result ≡ issue_orderer e }
 {
@@ -46,6 +50,7 @@ pub fn issue_orderer(e: u64) -> u64
 }
 
 // The member set that an issue appoints.
+#[tactic(auto, unfolding(model::specs::Entries::issue_members))]
 pub fn issue_members(e: u64) -> u64
     ensures { result ≡ issue_members e }
 {

@@ -18,6 +18,7 @@ use types::rejection::Rejection;
 pub mod name;
 
 // Whether a configuration is installed.
+#[tactic(auto, unfolding(model::specs::Layout::is_installed, model::specs::Layout::installed, model::specs::Layout::head_word, model::specs::Layout::head_place))]
 pub fn is_installed(state: &[u64], at: Named) -> bool
     requires { Ready state.now at.z at.j }
     ensures { result ≡ is_installed state.now at.z at.j }

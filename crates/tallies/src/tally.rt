@@ -13,6 +13,7 @@ pub struct Tally {
 }
 
 // Nothing counted yet.
+#[tactic(auto, unfolding(crate::specs::TallyCounts::nothing_counted))]
 pub fn zero() -> Tally
     ensures { result ≡ nothing_counted }
 {

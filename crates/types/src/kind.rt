@@ -82,6 +82,7 @@ impl Kind {
     }
 
     // How many numbers a step of this kind uses.
+    #[tactic(auto, unfolding(crate::specs::Rules::rules_of))]
     pub fn used(self) -> usize
         ensures { result ≡ used_numbers (Ok self) }
     {

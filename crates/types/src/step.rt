@@ -18,6 +18,7 @@ pub struct Step {
 
 impl Step {
     // The shard that the step names.
+    #[tactic(auto, unfolding(crate::specs::StepNames::shard_of))]
     pub fn shard(self) -> u64
         ensures { result ≡ shard_of self }
     {

@@ -33,6 +33,7 @@ fn shards_of(len: usize) -> usize
 }
 
 // The number of shards of a state of `len` words, or rejection 1.
+#[tactic(auto, unfolding(crate::specs::Checked::shard_count_of))]
 pub fn shard_count(len: usize) -> Result<usize, Rejection>
     ensures { result ≡ shard_count_of len }
 {
