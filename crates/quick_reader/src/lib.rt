@@ -23,7 +23,8 @@ const WINDOW: usize = 8;
 const TOP_BIT: u8 = 128;
 
 // The step at a position of a log, with the position after it, or nothing where the log ends there. It is put into the loops over logs: as a call it
-// would cost them up to a quarter of their time. So are the methods of `Short` and `LongAdd`.
+// would cost them up to a quarter of their time. So are the methods of `Short` and `LongAdd`. What `log_reader` answers is taken apart, so that no step
+// goes through its place in memory.
 #[inline(always)]
 pub fn read_step(log: &[u8], at: usize) -> Result<Option<Reading>, Rejection>
     ensures result_value { answer_number result ≡ read_rejection (drop at log.now) }
@@ -37,7 +38,10 @@ pub fn read_step(log: &[u8], at: usize) -> Result<Option<Reading>, Rejection>
     if let Some(add) = LongAdd::at(log, at) {
         return Ok(Some(add.reading()));
     }
-    log_reader::read_step(log, at)
+    let Some(Reading { step, next }) = log_reader::read_step(log, at)? else {
+        return Ok(None);
+    };
+    Ok(Some(Reading { step, next }))
 }
 
 // Whether the bytes that are looked at are left at a position.

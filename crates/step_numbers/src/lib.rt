@@ -21,7 +21,7 @@ pub mod acting;
 pub fn is_index_of(shards: usize, shard: u64, index: u64) -> bool
     ensures { result ≡ is_index_of shards shard index }
 {
-    shard < shards as u64 && 1 <= index && index <= CONFIGURATIONS as u64
+    shard < shards as u64 && (1..=CONFIGURATIONS as u64).contains(&index)
 }
 
 // Whether the third and fourth number suit a kind: the third is a host or an entry, the fourth is at most the kind's largest, 0 where it is not used.
