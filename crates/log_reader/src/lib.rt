@@ -34,7 +34,7 @@ pub fn read_step(log: &[u8], at: usize) -> Result<Option<Reading>, Rejection>
 }
 
 // The step at the start of a log, with the count of its bytes, or nothing where the log is empty.
-fn first_step(log: &[u8]) -> Result<Option<Reading>, Rejection>
+pub fn first_step(log: &[u8]) -> Result<Option<Reading>, Rejection>
     ensures result_value { answer_number result ≡ read_rejection log.now }
     ensures result_value_2 { reading_step result ≡ step_read log.now }
     ensures result_value_3 { reading_next result ≡ bytes_read log.now }

@@ -3,26 +3,34 @@ ghost use Rattle.std.specs.Prelude.{◌≡◌, ◌<◌, ◌≤◌, length, take,
 ghost use Rattle.std.specs.Io.KnownBytes.{Consumes, IsAtEnd, Keeps};
 ghost use Rattle.std.specs.IoError.{error_kind};
 ghost use Rattle.penkwadar.specs.Passing.{IsPassing};
-ghost use Rattle.penkwadar.specs.Counts.{IsPrefixLen, ConsumesSome};
+ghost use Rattle.penkwadar.specs.Counts.{IsPrefixLen, ConsumesSome, read_count};
 
 use crate::passing::is_passing;
 use std::io;
 use std::io::{ErrorKind, Read};
 
-// Reads until the buffer is full or the input ends, and returns how many bytes were read. An error tells why not: that of a read that failed for
-// good, or another where no turn was left. Then some first bytes may have been read. The library's `read_exact` takes a short input for an error.
-pub fn read_all<R: Read>(from: &mut R, buf: &mut [u8]) -> io::Result<usize>
-    ensures within { IfOk result (λ count. IsPrefixLen count buf.new) }
-    ensures bytes { IfOk result (λ count. Consumes (R.remaining from.old) (R.remaining from.new) (take count buf.new)) }
+// An input that was not read whole: how many first bytes were read, and the error that tells why not all.
+#[derive(Clone, Copy)]
+pub struct Unread {
+    pub count: usize,
+    pub error: io::Error,
+}
+
+// Reads until the buffer is full or the input ends, and returns how many bytes were read. The error is that of a read that failed for good, or
+// another where no turn was left. The library's `read_exact` takes a short input for an error.
+pub fn read_all<R: Read>(from: &mut R, buf: &mut [u8]) -> Result<usize, Unread>
+    ensures within { IsPrefixLen (read_count result) buf.new }
+    ensures bytes { Consumes (R.remaining from.old) (R.remaining from.new) (take (read_count result) buf.new) }
     ensures end { IfOk result (λ count. count < length buf.new → IsAtEnd (R.remaining from.new)) }
     ensures err { OnErr result (ConsumesSome (R.remaining from.old) (R.remaining from.new) buf.new) }
-    ensures lasting { IfErr result (λ error. ¬ (IsPassing (error_kind error))) }
+    ensures lasting { IfErr result (λ unread. ¬ (IsPassing (error_kind unread.error))) }
 {
     let mut count = 0;
     while count < buf.len() {
-        match read_some(from, &mut buf[count..])? {
-            0 => return Ok(count),
-            more => count += more,
+        match read_some(from, &mut buf[count..]) {
+            Ok(0) => return Ok(count),
+            Ok(more) => count += more,
+            Err(error) => return Err(Unread { count, error }),
         }
     }
     Ok(count)

@@ -22,7 +22,7 @@ fn main(rt: HostRuntime) {
     let mut log = [0u8; READ_BYTES];
     match input::read_all(&mut rt.stdin(), &mut log) {
         Ok(count) => show(&rt, &log[..count]),
-        Err(error) => fail(&rt, "penkwadar: cannot read the log", error),
+        Err(unread) => fail(&rt, "penkwadar: cannot read the log", unread.error),
     }
 }
 

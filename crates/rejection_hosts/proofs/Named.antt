@@ -3,18 +3,16 @@
 use Prim.Native.Nat.{ℕ, ◌-◌, ◌≤◌}
 use native.Mathlib.Omega.{arith}
 use mathlib.Core.Path.{◌≡◌, refl, sym, ap, ◌∙◌}
-use mathlib.Core.Logic.{◌⊎◌, inl, inr}
-use mathlib.Core.Bool.{Bool, true, false, cond}
+use mathlib.Core.Bool.{Bool, true, false, cond, ◌||◌, true≢false}
 use mathlib.Core.List.{List, [], ◌∷◌}
 use lib.Dec.{leb, ltb}
 use lib.ListN.{length}
-use borrow.Author.Tests.{le-leb, leb-true, ltb-true, ne_eqb}
-use Rattle.std.specs.Prelude.{unwrap_or}
+use borrow.Author.Tests.{le-leb, leb-true, ltb-true}
+use Rattle.std.specs.Prelude.{⊤, eqb, Result, unwrap_or}
 use Rattle.std.specs.Bool.{then_some}
 use Rattle.types.specs.declared.step.Step.{Step}
 use Rattle.types.specs.declared.rejection.Rejection.{Rejection}
-use Rattle.types.specs.declared.rejection.Rejection.TheVariants.{OutOfRange, NotInstalled}
-use Rattle.types.specs.Rejections.{rejection_number, numbered}
+use Rattle.types.specs.Rejections.{answer_number}
 use Rattle.model.specs.Checks.{first_of}
 use Rattle.types.specs.Kinds.{kind_of}
 use Rattle.types.specs.Members.{is_host}
@@ -22,26 +20,21 @@ use Rattle.model.specs.Layout.{shards_of, is_state_length}
 use Rattle.model.specs.Configuration.{configuration}
 use Rattle.types.specs.StepNames.{shard_of, configuration_of, acting_host}
 use Rattle.model.specs.Steps.{are_numbers, in_range, step_checks, rejection}
-use Rattle.types.proofs.Rejections.{numbered_back}
 use Rattle.model.proofs.Tests.{all_pass}
 use Rattle.lookup.specs.Ready.{Ready}
 use Rattle.rejection_hosts.specs.RejectionHosts.{no_host, orderer_named, named_host, count_of, RejectedStep}
 
--- a rejection with number n is the one that n names
-named_by : (a : Rejection) (n : ℕ) → rejection_number a ≡ n → a ≡ numbered n
-named_by a n e = sym (numbered_back a) ∙ ap numbered e
+-- an answer at which no orderer is named
+abbrev pub unnamed : Result ⊤ Rejection → Bool
+unnamed a = eqb (answer_number a) 7 || eqb (answer_number a) 10
 
-module _ {w : List ℕ} {s : Step} {a : Rejection} (r : RejectedStep w s a) where
-  not_seven : (a ≡ OutOfRange → ⊥) → rejection_number a ≡ 7 → ⊥
-  unfolding numbered
-  not_seven n e = n (named_by a 7 e)
+-- .. and one at which an orderer is named is not 7
+pub by_seven : (n : ℕ) → (eqb n 7 || eqb n 10) ≡ false → n ≡ 7 → ⊥
+by_seven n other e = true≢false (rw e at other)
 
-  not_ten : (a ≡ NotInstalled → ⊥) → rejection_number a ≡ 10 → ⊥
-  unfolding numbered
-  not_ten n e = n (named_by a 10 e)
-
+module _ {w : List ℕ} {s : Step} {a : Result ⊤ Rejection} (r : RejectedStep w s a) where
   -- a step whose rejection is not 7 has its numbers in range
-  in_range_lem : (a ≡ OutOfRange → ⊥) → in_range (shards_of (length w)) s ≡ true
+  in_range_lem : (answer_number a ≡ 7 → ⊥) → in_range (shards_of (length w)) s ≡ true
   unfolding rejection step_checks first_of is_state_length
   in_range_lem n = go (in_range (shards_of (length w)) s) refl
     where
@@ -49,20 +42,20 @@ module _ {w : List ℕ} {s : Step} {a : Rejection} (r : RejectedStep w s a) wher
       go true e = refl
       go false e =
           absurd
-          (not_seven n (r.is ∙ rw (le-leb 2 (shards_of (length w)) r.formed.several, r.known.not_kept, r.known.known, e)))
+          (n (r.is ∙ rw (le-leb 2 (shards_of (length w)) r.formed.several, r.known.not_kept, r.known.known, e)))
 
-  tests : (a ≡ OutOfRange → ⊥) → (ltb s.a (shards_of (length w)) ≡ true) × (leb 1 s.b ≡ true) × (leb s.b 8 ≡ true)
+  tests : (answer_number a ≡ 7 → ⊥) → (ltb s.a (shards_of (length w)) ≡ true) × (leb 1 s.b ≡ true) × (leb s.b 8 ≡ true)
   unfolding in_range
   tests n =
       let p = all_pass (ltb s.a (shards_of (length w)))
       (leb 1 s.b ∷ leb s.b 8 ∷ are_numbers (kind_of s.kind) (shards_of (length w)) s.c s.d ∷ []) (in_range_lem n) in
       (p.0, p.1.0, p.1.1.0)
 
-  pub index_least : (a ≡ OutOfRange → ⊥) → 1 ≤ s.b
+  pub index_least : (answer_number a ≡ 7 → ⊥) → 1 ≤ s.b
   index_least n = leb-true 1 s.b (tests n).1
 
   -- .. so it names a configuration, installed or not
-  pub names-configuration : (a ≡ OutOfRange → ⊥) → {z : ℕ} → z ≡ shard_of s → Ready w z (s.b - 1)
+  pub names-configuration : (answer_number a ≡ 7 → ⊥) → {z : ℕ} → z ≡ shard_of s → Ready w z (s.b - 1)
   unfolding shard_of
   names-configuration n e =
       record {
@@ -71,15 +64,13 @@ module _ {w : List ℕ} {s : Step} {a : Rejection} (r : RejectedStep w s a) wher
         configuration = omega (arith, leb-true s.b 8 (tests n).2, index_least n);
       }
 
-  -- a rejection by 7 or 10 has no orderer, and any other has the configuration's
-  pub no_orderer : (a ≡ OutOfRange) ⊎ (a ≡ NotInstalled) → no_host ≡ orderer_named w s
-  no_orderer (inl e) = rw (sym r.is, e)
-  no_orderer (inr e) = rw (sym r.is, e)
+  -- no orderer is named where the answer is 7 or 10, and else the configuration's
+  pub no_orderer : unnamed a ≡ true → no_host ≡ orderer_named w s
+  no_orderer e = rw (sym r.is, e)
 
-  pub has_orderer : (a ≡ OutOfRange → ⊥) → (a ≡ NotInstalled → ⊥) → {z : ℕ} → z ≡ shard_of s → {o : ℕ} → o ≡ (configuration w z (s.b - 1)).orderer
-      → o ≡ orderer_named w s
+  pub has_orderer : unnamed a ≡ false → {z : ℕ} → z ≡ shard_of s → {o : ℕ} → o ≡ (configuration w z (s.b - 1)).orderer → o ≡ orderer_named w s
   unfolding configuration configuration_of
-  has_orderer m n e p = p ∙ rw (sym r.is, ne_eqb (rejection_number a) 7 (not_seven m), ne_eqb (rejection_number a) 10 (not_ten n), e)
+  has_orderer n e p = p ∙ rw (sym r.is, n, e)
 
 -- the count: the host's own, or that of no host
 module _ (w : List ℕ) (s : Step) {o h : ℕ} (q : o ≡ orderer_named w s) (e : h ≡ acting_host s o) where

@@ -1,9 +1,9 @@
 -- Whose rejection a step's is (document 02, A7).
-use Rattle.std.specs.Prelude.{ℕ, ◌≡◌, cond, ◌||◌, List, eqb}
+use Rattle.std.specs.Prelude.{ℕ, ◌≡◌, cond, ◌||◌, List, eqb, ⊤, Result}
 use Rattle.types.specs.declared.step.Step.{Step}
 use Rattle.types.specs.declared.rejection.Rejection.{Rejection}
 use Rattle.types.specs.Kinds.{kind_of}
-use Rattle.types.specs.Rejections.{rejection_number}
+use Rattle.types.specs.Rejections.{answer_number}
 use Rattle.types.specs.Rules.{Known}
 use Rattle.types.specs.Members.{is_host}
 use Rattle.types.specs.StepNames.{shard_of, configuration_of, acting_host}
@@ -27,8 +27,8 @@ named_host w s = acting_host s (orderer_named w s)
 unfoldable pub count_of : List ℕ → Step → ℕ
 count_of w s = cond (is_host (named_host w s)) (named_host w s) no_host
 
--- a step that was rejected, as it is looked at for its host
-pub record RejectedStep (w : List ℕ) (s : Step) (r : Rejection) : Type 0 where
+-- a step with its answer, as it is looked at for its host: rejected, or accepted too
+pub record RejectedStep (w : List ℕ) (s : Step) (answer : Result ⊤ Rejection) : Type 0 where
   pub formed : Formed w
   pub known : Known (kind_of s.kind)
-  pub is : rejection_number r ≡ rejection w s
+  pub is : answer_number answer ≡ rejection w s

@@ -9,7 +9,7 @@ use mathlib.Core.List.{List}
 use lib.Dec.{eqb}
 use lib.ListN.{drop}
 use borrow.Author.Tests.{eq-eqb, ne_eqb}
-use Rattle.std.specs.Prelude.{Result}
+use Rattle.std.specs.Prelude.{Err, Result}
 use Rattle.types.specs.declared.rejection.Rejection.{Rejection}
 use Rattle.types.specs.declared.step.Step.{Step}
 use Rattle.types.specs.declared.Stop.{Stop}
@@ -95,7 +95,7 @@ module _ {w₀ log : List ℕ} {budget : ℕ} {w : List ℕ} {at tried rejected 
       left = q ∙ after_rejected w s no
 
       -- it has a host to be looked for
-      pub has_host : RejectedStep v s x
+      pub has_host : RejectedStep v s (Err x)
       has_host = record { formed = rw left u.running.formed; known = known_step log at s next e; is = p ∙ rw left }
 
       module _ {k : ℕ} (c : k ≡ count_of v s) where

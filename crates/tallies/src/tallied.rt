@@ -57,7 +57,7 @@ fn run(state: &mut [u64], shards: usize, log: &[u8], budget: u64, tally: &mut Ta
         match read_step(log, at) {
             Ok(Some(reading)) => {
                 if let Err(rejection) = step_inside(state, shards, reading.step) {
-                    count(tally, count_of(state, reading.step, rejection));
+                    count(tally, count_of(state, reading.step, Err(rejection)));
                     rejected += 1;
                 }
                 at = reading.next;

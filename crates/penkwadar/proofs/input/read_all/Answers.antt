@@ -18,7 +18,7 @@ front_read a k n xs ys within fits =
 pub loop-count-preserved : goal.loop-count-preserved
 loop-count-preserved g c =
     let l = c.loop-count in
-    let more = c.in_ok-more in (
+    let more = c.in-Ok in (
       search rules,
       search rules,
       subst (Consumes _ _) (front_read l.count (length l.buf - l.count) more.more l.buf c.read_some.new.buf l.invariant.1 more.ensures.within.0)
