@@ -15,10 +15,9 @@ use types::step::Step;
 pub extern "C" fn penkwadar_state_words(zones: u64) -> u64
     ensures { result ≡ state_words zones }
 {
-    if (2..=8).contains(&zones) {
-        SHARD_WORDS as u64 * zones
-    } else {
-        0
+    match zones {
+        2..=8 => SHARD_WORDS as u64 * zones,
+        _ => 0,
     }
 }
 

@@ -1,5 +1,5 @@
 // One step from bytes and to bytes.
-ghost use Rattle.std.specs.Prelude.{◌≡◌, [], ◌∷◌};
+ghost use Rattle.std.specs.Prelude.{◌≡◌, ◌≤◌, [], ◌∷◌, length};
 ghost use Rattle.model.specs.Log.{step_of};
 ghost use Rattle.word_outputs.specs.StepOutputs.{read_answer, step_after, write_answer, out_after, byte_count_after};
 
@@ -25,7 +25,24 @@ pub extern "C" fn penkwadar_read_step(log: &[u8], at: usize, step: &mut [u64]) -
     if step.len() < STEP_WORDS {
         return u64::from(Rejection::OutputLength);
     }
-    match quick_reader::read_step(log, at) {
+    match quick_reader::usual_step(log, at) {
+        Some(reading) => {
+            put_step(step, reading.step, reading.next as u64);
+            0
+        }
+        None => read_any(log, at, step),
+    }
+}
+
+// The same of any step, where the output has room. It is a call of its own, since the place for what `log_reader` answers is cleared at each call:
+// beside the usual steps it made reading these take 1.2 to 1.7 of their time.
+#[inline(never)]
+fn read_any(log: &[u8], at: usize, step: &mut [u64]) -> u64
+    requires { 6 ≤ length step.old }
+    ensures value { result ≡ read_answer log.now at step.old }
+    ensures step_after { step.new ≡ step_after log.now at step.old }
+{
+    match log_reader::read_step(log, at) {
         Ok(Some(reading)) => {
             put_step(step, reading.step, reading.next as u64);
             0

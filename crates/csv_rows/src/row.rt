@@ -5,7 +5,7 @@ ghost use Rattle.decimal_text.specs.Appended.{HasRoom, Appended};
 ghost use Rattle.csv_rows.specs.Format.{comma};
 ghost use Rattle.csv_rows.specs.Room.{entry_text};
 
-use crate::kind::kind_name;
+use crate::kind::{append_kind, kind_name};
 use decimal_text::decimal::width;
 use decimal_text::text::Text;
 
@@ -28,7 +28,7 @@ pub fn append_row(text: &mut Text<'_>, shard: u64, place: u64, entry: u64)
 {
     append_field(text, shard);
     append_field(text, place);
-    text.bytes(kind_name(entry));
+    append_kind(text, entry);
     text.byte(b',');
     text.decimal(entry);
     text.bytes(b"\r\n");

@@ -81,3 +81,11 @@ digits_most (suc k) n =
 pub decimal_most : (n : ℕ) → length (decimal n) ≤ 20
 unfolding decimal
 decimal_most n = digits_most 20 n
+
+pub decimal_least : (n : ℕ) → 1 ≤ length (decimal n)
+unfolding decimal
+decimal_least n =
+    elim (dec_lt n 10) [
+      | yes l ↦ rw (digits_small 19 n l) (omega arith)
+      | no l ↦ rw (digits_more 19 n (omega arith), length-append (digits 19 (n / 10)) ((48 + n % 10) ∷ [])) (omega arith)
+    ]

@@ -48,12 +48,16 @@ impl<'a> Text<'a> {
         self.at += 1;
     }
 
-    // Appends a number in decimal.
-    #[tactic(auto, using(crate::proofs::Appending::appending, crate::proofs::LastDigits::decimal_last))]
+    // Appends a number in decimal. Most numbers have one digit.
+    #[tactic(auto, using(crate::proofs::Appending::appending, crate::proofs::LastDigits::decimal_last, crate::proofs::DecimalLaws::decimal_small))]
     pub fn decimal(&mut self, n: u64)
         requires { HasRoom self.old (decimal n) }
         ensures { Appended self.old (decimal n) self.new }
     {
+        if n < 10 {
+            self.byte(b'0' + n as u8);
+            return;
+        }
         let end = self.at + width(n);
         put_digits(&mut self.out[self.at..end], n);
         self.at = end;

@@ -4,7 +4,7 @@
 #![tactic(auto)]
 
 ghost use Rattle.types.specs.Rejections.{answer_number};
-ghost use Rattle.std.specs.Prelude.{◌≡◌, ◌+◌, leb, length, drop};
+ghost use Rattle.std.specs.Prelude.{◌≡◌, ◌+◌, leb, length, drop, Ok, Some, IfSome};
 ghost use Rattle.model.specs.Log.{read_at};
 ghost use Rattle.model.specs.Results.{reading_step, reading_next, read_rejection, step_read, next_read};
 
@@ -22,9 +22,23 @@ const WINDOW: usize = 8;
 // The bit of a byte that tells that more bytes of its number follow (`numbers::TOP_BIT`).
 const TOP_BIT: u8 = 128;
 
+// The step at a position of a log, with the position after it, where it is one that logs mostly have; of others this says nothing.
+#[inline(always)]
+pub fn usual_step(log: &[u8], at: usize) -> Option<Reading>
+    ensures { IfSome result (λ reading. Ok (Some reading) ≡ read_at log.now at) }
+{
+    if let Some(short) = Short::at(log, at) {
+        return Some(short.reading());
+    }
+    if let Some(add) = LongAdd::at(log, at) {
+        return Some(add.reading());
+    }
+    None
+}
+
 // The step at a position of a log, with the position after it, or nothing where the log ends there. It is put into the loops over logs: as a call it
-// would cost them up to a quarter of their time. So are the methods of `Short` and `LongAdd`. What `log_reader` answers is taken apart, so that no step
-// goes through its place in memory.
+// would cost them up to a quarter of their time. So are `usual_step` and the methods of `Short` and `LongAdd`. What `log_reader` answers is taken
+// apart, so that no step goes through its place in memory.
 #[inline(always)]
 pub fn read_step(log: &[u8], at: usize) -> Result<Option<Reading>, Rejection>
     ensures result_value { answer_number result ≡ read_rejection (drop at log.now) }
@@ -32,11 +46,8 @@ pub fn read_step(log: &[u8], at: usize) -> Result<Option<Reading>, Rejection>
     ensures result_value_3 { reading_next result ≡ next_read log.now at }
     ensures value { result ≡ read_at log.now at }
 {
-    if let Some(short) = Short::at(log, at) {
-        return Ok(Some(short.reading()));
-    }
-    if let Some(add) = LongAdd::at(log, at) {
-        return Ok(Some(add.reading()));
+    if let Some(reading) = usual_step(log, at) {
+        return Ok(Some(reading));
     }
     let Some(Reading { step, next }) = log_reader::read_step(log, at)? else {
         return Ok(None);

@@ -77,10 +77,10 @@ fn joined(sum: u64, byte: u8) -> u64 {
 
 // FNV-1a over a state's words, the lowest byte of each first.
 fn checksum(state: &[u64]) -> u64 {
-    state
-        .iter()
-        .flat_map(|word| word.to_le_bytes())
-        .fold(FNV_BASIS, joined)
+    state.iter().fold(FNV_BASIS, |sum, word| {
+        let bytes = word.to_le_bytes();
+        bytes.iter().fold(sum, |sum, byte| joined(sum, *byte))
+    })
 }
 
 // One vector: whether its answer and the state after it are other than expected.

@@ -1,9 +1,7 @@
 -- `capi::steps::penkwadar_read_step` meets its contract.
-use mathlib.Core.Path.{refl, sym, ap, ◌∙◌}
-use Rattle.std.specs.Prelude.{Ok}
-use Rattle.model.specs.Log.{step_of}
+use mathlib.Core.Path.{refl, ◌∙◌}
 use Rattle.model.specs.Results.{reading_step, reading_next}
-use Rattle.capi.proofs.StepWords.{read_short, read, read_rejected}
+use Rattle.capi.proofs.StepWords.{read_short, read}
 use Rattle.capi.proofs.steps.penkwadar_read_step.Goals as goal
 
 pub returns-then-step-lt-STEP_WORDS : goal.returns-then-step-lt-STEP_WORDS
@@ -11,21 +9,8 @@ returns-then-step-lt-STEP_WORDS c =
     let t = read_short _ _ _ c.if-step-lt-STEP_WORDS.true in
     record { value = c.from.ensures ∙ t.0; step_after = t.1 }
 
-pub returns-in-Ok-Some : goal.returns-in-Ok-Some
+pub returns-in-Some : goal.returns-in-Some
 unfolding reading_step reading_next
-returns-in-Ok-Some c =
-    let e = sym c.in-Ok-Some.is ∙ c.read_step.ensures.value in
-    let t = read _ _ _ c.if-step-lt-STEP_WORDS.false (ap Ok (sym c.in-Ok-Some.field-0-is) ∙ e) refl c.put_step.ensures in
+returns-in-Some c =
+    let t = read _ _ _ c.if-step-lt-STEP_WORDS.false c.in-Some.ensures refl c.put_step.ensures in
     record { value = t.0; step_after = t.1 }
-
-pub returns-in-Ok-None : goal.returns-in-Ok-None
-unfolding reading_step reading_next step_of
-returns-in-Ok-None c =
-    let e = sym c.in-Ok-None.is ∙ c.read_step.ensures.value in
-    let t = read _ _ _ c.if-step-lt-STEP_WORDS.false (ap Ok (sym c.in-Ok-None.field-0-is) ∙ e) refl c.put_step-in-Ok-None.ensures in
-    record { value = t.0; step_after = t.1 }
-
-pub returns-in-Err : goal.returns-in-Err
-returns-in-Err c =
-    let t = read_rejected _ _ _ c.if-step-lt-STEP_WORDS.false (sym c.read_step.ensures.value ∙ c.in-Err.is) in
-    record { value = c.from-in-Err.ensures ∙ t.0; step_after = t.1 }
