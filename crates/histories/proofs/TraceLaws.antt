@@ -103,3 +103,12 @@ trace_laws =
           rw (← source_is u z i h e k l m)
           ((sources w p q calls).immutable z _ _ _ n (seated u z i h e k l m) (named u z i h e k l m)).1;
     }
+
+-- an accepted call lists at most seven hosts
+pub trace_few : (w : List ℕ) (z i h : ℕ) → trace_rejection w z i h ≡ 0 → length (trace_of w z (i - 1) h) ≤ 7
+unfolding trace_of
+trace_few w z i h e = go (is_pending (replica_in w z (i - 1) h)) refl
+  where
+    go : (b : Bool) → is_pending (replica_in w z (i - 1) h) ≡ b → length (trace_of w z (i - 1) h) ≤ 7
+    go true q = rw q (omega arith)
+    go false q = omega (arith, is_long w z i h e q)

@@ -1,11 +1,12 @@
 -- A step is read number by number. Assumes nothing.
-use Rattle.std.specs.Prelude.{Ok, Err, None}
+use Rattle.std.specs.Prelude.{Ok, Err, None, Some}
 use Rattle.types.specs.declared.rejection.Rejection.TheVariants.{KeptKind, UnknownKind}
 use Rattle.model.specs.Numbers.{ReadNumber, valued}
 use Rattle.model.specs.Log.{ReadStep, one_step}
 use Prim.Native.Nat.{ℕ, suc, ◌+◌, ◌≤◌, ◌<◌}
+use native.Mathlib.Nat.{zero-add}
 use native.Mathlib.Omega.{arith}
-use mathlib.Core.Path.{◌≡◌, refl, sym, ◌∙◌}
+use mathlib.Core.Path.{◌≡◌, refl, sym, ap, ◌∙◌}
 use mathlib.Core.Bool.{cond}
 use mathlib.Core.List.{List, [], ◌∷◌, ◌++◌, append_assoc, append-nil}
 use lib.ListN.{length, drop, length-drop, drop_of_length-le}
@@ -146,3 +147,14 @@ module _ (log : List ℕ) (at : ℕ) where
   pub step_at : {s : Step} {n : ℕ} → read_step (drop at log) ≡ one_step s n → read_at log at ≡ one_step s (at + n)
   unfolding read_at from
   step_at e = rw e
+
+-- at the start of a log, the position after a step is the count of its bytes
+from_start : (r : ReadStep) → from 0 r ≡ r
+unfolding from
+from_start (Ok (Some read)) = ap (one_step read.step) (zero-add read.next)
+from_start (Ok None) = refl
+from_start (Err r) = refl
+
+pub read_start : (log : List ℕ) → read_at log 0 ≡ read_step log
+unfolding read_at
+read_start log = from_start (read_step log)

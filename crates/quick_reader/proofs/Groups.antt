@@ -1,12 +1,14 @@
 -- The number at the start of some bytes: its value, its count of bytes and its last byte. Assumes nothing.
 use Rattle.model.specs.Numbers.{valued}
-use Prim.Native.Nat.{ℕ, zero, suc, ◌+◌, ◌*◌, ◌%◌, ◌≤◌, ◌<◌}
+use Prim.Native.Nat.{ℕ, zero, suc, ◌+◌, ◌*◌, ◌%◌, ◌^◌, ◌≤◌, ◌<◌}
+use native.Mathlib.Nat.{mul-suc}
 use native.Mathlib.Decide.{dec_lt}
 use native.Mathlib.Omega.{arith}
 use mathlib.Core.Path.{◌≡◌, refl}
 use mathlib.Core.Bool.{Bool, true, false, cond}
 use mathlib.Core.List.{List, [], ◌∷◌, ◌++◌}
 use lib.Dec.{ltb}
+use lib.Pow.{pow-add, pow_pos}
 use lib.ListN.{length}
 use borrow.Author.Tests.{lt-ltb, le-ltb}
 use Rattle.model.specs.Numbers.{read_groups, with_lower}
@@ -71,3 +73,16 @@ groups_most (b ∷ bs) = go (ltb b 128) (groups_most bs)
     go : (t : Bool) → groups_count bs ≤ length bs → cond t 1 (suc (groups_count bs)) ≤ suc (length bs)
     go true ih = omega arith
     go false ih = omega arith
+
+-- each byte holds seven bits
+pub groups_below : (bs : List ℕ) → groups_value bs < 2 ^ (7 * length bs)
+unfolding groups_value
+groups_below [] = omega arith
+groups_below (b ∷ bs) = go (dec_lt b 128) (groups_below bs)
+  where
+    more : 2 ^ (7 * suc (length bs)) ≡ 2 ^ (7 * length bs) * 128
+    more = rw (mul-suc 7 (length bs), pow-add 2 (7 * length bs) 7)
+
+    go : Dec (b < 128) → groups_value bs < 2 ^ (7 * length bs) → groups_value (b ∷ bs) < 2 ^ (7 * suc (length bs))
+    go (yes h) ih = rw (lt-ltb b 128 h) (omega (arith, more, pow_pos (7 * length bs)))
+    go (no h) ih = rw (le-ltb b 128 (omega arith)) (omega (arith, more))

@@ -2,7 +2,11 @@
 -- Assumes nothing.
 use Rattle.std.proofs.Common.{ℕ, ◌+◌, ◌≤◌, ◌<◌, ◌≡◌, List, [], ◌∷◌, ◌++◌, length, get_or, take, zero, suc, arith, append-nil, append_assoc, length-append, sym}
 use Rattle.decimal_text.proofs.Appending.{appending}
-use Rattle.model.specs.Transcript.{spaced, spaced_all}
+use Rattle.model.specs.Transcript.{decimal, spaced, spaced_all}
+
+pub spaced-length : (n : ℕ) → length (spaced n) ≡ length (decimal n) + 1
+unfolding spaced
+spaced-length n = omega arith
 
 -- the first i + 1 numbers are the first i and one more
 pub spaced_more : (numbers : List ℕ) (i : ℕ) → i < length numbers
