@@ -35,7 +35,7 @@ pub extern "C" fn penkwadar_read_step(log: &[u8], at: usize, step: &mut [u64]) -
 }
 
 // The same of any step, where the output has room. It is a call of its own, since the place for what `log_reader` answers is cleared at each call:
-// beside the usual steps it made reading these take 1.2 to 1.7 of their time.
+// beside the usual steps it made reading these take 1.2 to 1.3 of their time.
 #[inline(never)]
 fn read_any(log: &[u8], at: usize, step: &mut [u64]) -> u64
     requires { 6 ≤ length step.old }

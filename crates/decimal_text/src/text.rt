@@ -48,7 +48,7 @@ impl<'a> Text<'a> {
         self.at += 1;
     }
 
-    // Appends a number in decimal. Most numbers have one digit.
+    // Appends a number in decimal. Many have one digit, and these need no field.
     #[tactic(auto, using(crate::proofs::Appending::appending, crate::proofs::LastDigits::decimal_last, crate::proofs::DecimalLaws::decimal_small))]
     pub fn decimal(&mut self, n: u64)
         requires { HasRoom self.old (decimal n) }

@@ -4,9 +4,11 @@
 #![tactic(auto)]
 
 ghost use Rattle.types.specs.Rejections.{answer_number};
-ghost use Rattle.std.specs.Prelude.{◌≡◌, ◌+◌, leb, length, drop, Ok, Some, IfSome};
+ghost use Rattle.std.specs.Prelude.{◌≡◌, ◌+◌, ◌||◌, leb, length, drop, is_some, Ok, Some, IfSome};
 ghost use Rattle.model.specs.Log.{read_at};
 ghost use Rattle.model.specs.Results.{reading_step, reading_next, read_rejection, step_read, next_read};
+ghost use Rattle.quick_reader.specs.Short.{is_short_at};
+ghost use Rattle.quick_reader.specs.Long.{is_long_add_at};
 
 use crate::long::LongAdd;
 use crate::short::Short;
@@ -22,10 +24,11 @@ const WINDOW: usize = 8;
 // The bit of a byte that tells that more bytes of its number follow (`numbers::TOP_BIT`).
 const TOP_BIT: u8 = 128;
 
-// The step at a position of a log, with the position after it, where it is one that logs mostly have; of others this says nothing.
+// The step at a position of a log, with the position after it, where a short step or an add of a longer entry is there.
 #[inline(always)]
 pub fn usual_step(log: &[u8], at: usize) -> Option<Reading>
-    ensures { IfSome result (λ reading. Ok (Some reading) ≡ read_at log.now at) }
+    ensures found { is_some result ≡ (is_short_at log.now at || is_long_add_at log.now at) }
+    ensures value { IfSome result (λ reading. Ok (Some reading) ≡ read_at log.now at) }
 {
     if let Some(short) = Short::at(log, at) {
         return Some(short.reading());

@@ -12,5 +12,5 @@ returns-then-step-lt-STEP_WORDS c =
 pub returns-in-Some : goal.returns-in-Some
 unfolding reading_step reading_next
 returns-in-Some c =
-    let t = read _ _ _ c.if-step-lt-STEP_WORDS.false c.in-Some.ensures refl c.put_step.ensures in
+    let t = read _ _ _ c.if-step-lt-STEP_WORDS.false c.in-Some.ensures.value refl c.put_step.ensures in
     record { value = t.0; step_after = t.1 }
